@@ -1,42 +1,27 @@
--- A rule of a table: one test over all entries, which antt computes, gives the rule at each of them.
-use mathlib.Core.Path.{_≡_, _∙_, subst, sym}
-use mathlib.Core.Bool.{Bool, true, false}
+-- A table of the values of a function: its rule at each entry. A table that the code writes out computes to the same list.
+use mathlib.Core.Path.{_≡_, _∙_, refl, ap}
 use mathlib.Core.List.{List, [], _∷_}
 use Prim.Native.Nat.{ℕ, zero, suc, _+_, _%_, _^_, _<_}
 use native.Mathlib.Nat.{add-zero, zero-add, add-suc, suc-add, le-of-suc-le-suc, not-suc-le-zero}
-use lib.Dec.{T, eqb, eqb→eq}
-use lib.ListN.{length, getD}
+use native.Mathlib.Omega.{arith}
+use lib.ListN.{getD}
 
-abbrev pub both : Bool → Bool → Bool
-both true b = b
-both false b = false
+-- f from, f (from + 1) and so on, count of them
+abbrev pub tabulated : (ℕ → ℕ) → (from count : ℕ) → List ℕ
+tabulated f from zero = []
+tabulated f from (suc count) = f from ∷ tabulated f (suc from) count
 
-both-left : (a b : Bool) → T (both a b) → T a
-both-left true b t = tt
-both-left false b t = t
+tabulated-from : (f : ℕ → ℕ) (from count k : ℕ) → k < count → getD (tabulated f from count) k 0 ≡ f (from + k)
+tabulated-from f from zero k h = absurd (not-suc-le-zero h)
+tabulated-from f from (suc count) zero h = ap f (omega arith)
+tabulated-from f from (suc count) (suc k) h = tabulated-from f (suc from) count k (le-of-suc-le-suc h) ∙ ap f (omega arith)
 
-both-right : (a b : Bool) → T (both a b) → T b
-both-right true b t = t
-both-right false b t = absurd t
+pub tabulated-at : (f : ℕ → ℕ) (count k : ℕ) → k < count → getD (tabulated f 0 count) k 0 ≡ f k
+tabulated-at f count k h = tabulated-from f 0 count k h ∙ ap f (zero-add k)
 
--- the test f passes at each entry of the list and its place, counted from i
-abbrev pub every : (ℕ → ℕ → Bool) → ℕ → List ℕ → Bool
-every f i [] = true
-every f i (x ∷ xs) = both (f i x) (every f (suc i) xs)
+-- the 256 powers of w modulo n
+abbrev pub power : (w n e : ℕ) → ℕ
+power w n e = (w ^ e) % n
 
-from : (f : ℕ → ℕ → Bool) (xs : List ℕ) (i : ℕ) → T (every f i xs) → (k : ℕ) → k < length xs → T (f (i + k) (getD xs k 0))
-from f [] i t k h = absurd (not-suc-le-zero h)
-from f (x ∷ xs) i t zero h = subst (λ (m : ℕ). T (f m x)) (sym (add-zero i)) (both-left (f i x) (every f (suc i) xs) t)
-from f (x ∷ xs) i t (suc k) h =
-    subst (λ (m : ℕ). T (f m (getD xs k 0))) (suc-add i k ∙ sym (add-suc i k))
-    (from f xs (suc i) (both-right (f i x) (every f (suc i) xs) t) k (le-of-suc-le-suc h))
-
-pub at : (f : ℕ → ℕ → Bool) (xs : List ℕ) → T (every f 0 xs) → (k : ℕ) → k < length xs → T (f k (getD xs k 0))
-at f xs t k h = subst (λ (m : ℕ). T (f m (getD xs k 0))) (zero-add k) (from f xs 0 t k h)
-
--- the entries are the powers of w modulo n
-abbrev pub is-power : ℕ → ℕ → ℕ → ℕ → Bool
-is-power w n e x = eqb x ((w ^ e) % n)
-
-pub power-at : (w n : ℕ) (xs : List ℕ) → T (every (is-power w n) 0 xs) → (e : ℕ) → e < length xs → getD xs e 0 ≡ (w ^ e) % n
-power-at w n xs t e h = eqb→eq (getD xs e 0) ((w ^ e) % n) (at (is-power w n) xs t e h)
+pub power-at : (w n e : ℕ) → e < 256 → getD (tabulated (power w n) 0 256) e 0 ≡ (w ^ e) % n
+power-at w n = tabulated-at (power w n) 256

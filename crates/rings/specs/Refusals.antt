@@ -1,0 +1,56 @@
+-- Refusals by number and place, and the checks of a call in their order.
+use Prim.Native.Nat.{ℕ, suc}
+use mathlib.Core.Bool.{Bool, cond}
+use mathlib.Core.List.{List, [], _∷_}
+use mathlib.Core.Option.{Option, none, some}
+use Rattle.std.specs.declared.result.Result.{Result}
+use Rattle.std.specs.declared.result.Result.the-variants.{Ok, Err}
+use Rattle.rings.specs.declared.refusal.Refusal.{Refusal}
+use Rattle.rings.specs.declared.refusal.Refusal.the-variants.{Length, Modulus, Range, Layer, Masks}
+
+abbrev pub number-of : Refusal → ℕ
+number-of (Length slice) = 1
+number-of Modulus = 3
+number-of (Range index) = 5
+number-of Layer = 8
+number-of (Masks register) = 23
+
+abbrev pub place-of : Refusal → ℕ
+place-of (Length slice) = slice
+place-of Modulus = 0
+place-of (Range index) = index
+place-of Layer = 0
+place-of (Masks register) = register
+
+-- how a call answers
+pub data Answer : Type 0 where
+  accepted : Answer
+  refused : (number place : ℕ) → Answer
+
+abbrev pub answer : {X : Type 0} → Result X Refusal → Answer
+answer (Ok x) = accepted
+answer (Err e) = refused (number-of e) (place-of e)
+
+-- a check of a call: a test that has to be true, or a search that has to find no place, each with the refusal that it makes
+pub data Check : Type 0 where
+  test : Bool → Refusal → Check
+  scan : Option ℕ → (ℕ → Refusal) → Check
+
+-- the answer of a call that makes these checks in this order
+abbrev pub found : Option ℕ → (ℕ → Refusal) → Answer → Answer
+found none refusal later = later
+found (some place) refusal later = refused (number-of (refusal place)) (place-of (refusal place))
+
+abbrev pub ruling : List Check → Answer
+ruling [] = accepted
+ruling (test b e ∷ checks) = cond b (ruling checks) (refused (number-of e) (place-of e))
+ruling (scan o e ∷ checks) = found o e (ruling checks)
+
+-- the first index at which a list fails a test
+abbrev pub next : Option ℕ → Option ℕ
+next none = none
+next (some k) = some (suc k)
+
+abbrev pub flaw : {A : Type 0} → (A → Bool) → List A → Option ℕ
+flaw passes [] = none
+flaw passes (x ∷ xs) = cond (passes x) (next (flaw passes xs)) (some 0)

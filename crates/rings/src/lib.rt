@@ -1,0 +1,9 @@
+pub mod plain;
+mod powers;
+mod reduction;
+pub mod refusal;
+pub mod ring;
+
+pub use plain::Plain;
+pub use refusal::Refusal;
+pub use ring::Ring;
