@@ -1,0 +1,3 @@
+pub mod butterfly;
+pub mod index;
+pub mod masks;
