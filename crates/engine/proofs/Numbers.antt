@@ -67,3 +67,7 @@ inverse-under neg w z z′ e o1 o2 d1 d2 d3 a b a′ b′ ez p q r m =
     (subst (λ (d : ℕ). MaskedInverse 7 neg w 1 z d d2 d3 a b a′ b′) p
     (subst (λ (d : ℕ). MaskedInverse 7 neg w 1 z e d d3 a b a′ b′) q
     (subst (λ (d : ℕ). MaskedInverse 7 neg w 1 z e o1 d a b a′ b′) r m)))
+
+-- and its factor
+pub with-factor : {neg w c c′ z e o1 o2 a b a′ b′ : ℕ} → c ≡ c′ → MaskedInverse 7 neg w c z e o1 o2 a b a′ b′ → MaskedInverse 7 neg w c′ z e o1 o2 a b a′ b′
+with-factor {neg} {w} {c} {c′} {z} {e} {o1} {o2} {a} {b} {a′} {b′} h m = subst (λ (k : ℕ). MaskedInverse 7 neg w k z e o1 o2 a b a′ b′) h m

@@ -1,3 +1,4 @@
 pub mod butterfly;
 pub mod index;
+pub mod layer;
 pub mod masks;

@@ -18,7 +18,8 @@ pub trait Ring {
 
     law odd: { (s : Self) → modulus s % 2 ≡ 1 };
 
-    law half_turn: { (s : Self) → (root s ^ 128 + 1) % modulus s ≡ 0 };
+    // half the way through its powers the root is -1
+    law halfway: { (s : Self) → (root s ^ 128 + 1) % modulus s ≡ 0 };
 
     law below: { (s : Self) (w : Self·Word) → element s w ≡ true → meaning s w < modulus s };
 
