@@ -5,3 +5,5 @@ pub mod Spans
 pub mod Carrying
 pub mod Layering
 pub mod Scaling
+pub mod Slots
+pub mod Wholes

@@ -1,6 +1,8 @@
 -- What one masked layer means for the transform as a whole.
-use Prim.Native.Nat.{ℕ, _-_, _*_, _^_}
-use mathlib.Core.List.{List}
+use Prim.Native.Nat.{ℕ, _-_, _*_, _^_, _<_}
+use mathlib.Core.Bool.{cond, _||_}
+use mathlib.Core.List.{List, [], _∷_}
+use lib.Dec.{eqb}
 use Rattle.algebra.specs.declared.Direction.the-variants.{Forward, Inverse}
 use Rattle.algebra.specs.Congruence.{Same}
 use Rattle.algebra.specs.Layers.{layers, inv-stage}
@@ -22,3 +24,11 @@ pub record WentBack (neg w i s : ℕ) (before list : List ℕ) (h h′ : ℕ →
 -- x is the inverse of 128
 abbrev pub Inverse-of-128 : (neg x : ℕ) → Type 0
 Inverse-of-128 neg x = Same neg (x * 2 ^ 7) 1
+
+-- equal modulo suc neg at each of the 256 positions
+abbrev pub Agrees : (neg : ℕ) (f g : ℕ → ℕ) → Type 0
+Agrees neg f g = (j : ℕ) → j < 256 → Same neg (f j) (g j)
+
+-- the list that stands for no masks after this many layers
+abbrev pub no-masks : ℕ → List ℕ
+no-masks s = cond (eqb s 0 || eqb s 7) [] (0 ∷ [])

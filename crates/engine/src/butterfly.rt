@@ -78,7 +78,16 @@ pub fn forward_group<R: Ring>(
         let e1 = before.at(wide + offset);
         let e2 = before.at(wide + (offset + len));
         let e3 = list.at(own + offset);
-        forward_butterfly(ring, words, base + offset, base + offset + len, z, e1, e2, e3);
+        forward_butterfly(
+            ring,
+            words,
+            base + offset,
+            base + offset + len,
+            z,
+            e1,
+            e2,
+            e3,
+        );
     }
 }
 
@@ -104,6 +113,15 @@ pub fn inverse_group<R: Ring>(
         let e = before.at(own + offset);
         let o1 = list.at(wide + offset);
         let o2 = list.at(wide + (offset + len));
-        inverse_butterfly(ring, words, base + offset, base + offset + len, z, e, o1, o2);
+        inverse_butterfly(
+            ring,
+            words,
+            base + offset,
+            base + offset + len,
+            z,
+            e,
+            o1,
+            o2,
+        );
     }
 }

@@ -2,3 +2,5 @@ pub mod butterfly;
 pub mod index;
 pub mod layer;
 pub mod masks;
+pub mod product;
+pub mod whole;
