@@ -8,6 +8,7 @@ use native.Mathlib.Omega.{arith}
 use lib.Arith.{digits-div, digits-mod}
 use lib.Dec.{ltb}
 use lib.ListN.{getD}
+use lib.Pow.{pow-pos}
 use Rattle.std.proofs.shelf.Tests.{lt-ltb, le-ltb}
 use Rattle.algebra.specs.declared.Direction.{Direction}
 use Rattle.algebra.specs.declared.Direction.the-variants.{Forward, Inverse}
@@ -15,7 +16,9 @@ use Rattle.algebra.specs.Congruence.{Same}
 use Rattle.algebra.specs.Layers.{forward-len, forward-groups, inverse-len, inverse-groups, last-factor, layers, inv-layers, inv-stage}
 use Rattle.algebra.specs.Masks.{Holds, ForwardLayer, InverseLayer, butterfly, block, carrying-len, mask-after, masked-forward, masked-inverse, masked-layer}
 use Rattle.algebra.specs.Theorems.{Carries}
-use Rattle.algebra.proofs.Modular.{same-of, same-refl, _⨾_, same-mul-left}
+use Rattle.algebra.proofs.Modular.{same-of, same-refl, same-sym, _⨾_, same-mul-left}
+use Rattle.algebra.proofs.Layers.{in-halves}
+use Rattle.algebra.proofs.Inverse.{whole}
 use Rattle.algebra.proofs.Steps.{forward-len-is, inverse-len-is, layers-zero, layers-suc, inv-layers-zero, inv-layers-suc}
 use Rattle.algebra.proofs.Masks.{Shared, forward-as-groups, inverse-as-groups, forward-step, inverse-step}
 
@@ -133,6 +136,28 @@ unfolding masked-layer
 inverse-layer-is L neg w i s incoming outgoing h =
     let e : s ≡ suc s - 1 = omega arith in
     rw (ap (λ k. mask-after L Inverse k incoming) e) (masked-inverse-is L neg w (suc s) _ _ h i)
+
+-- a layer determines what it writes
+pub forward-layer-one : {neg : ℕ} (L w t : ℕ) → t < 8 → (e d h h₁ h₂ : ℕ → ℕ) →
+    ForwardLayer L neg w (suc t) e d h h₁ → ForwardLayer L neg w (suc t) e d h h₂ → (j : ℕ) → j < 256 → Same neg (h₁ j) (h₂ j)
+forward-layer-one {neg} L w t low e d h h₁ h₂ M N j k =
+    let A = forward-as-groups L neg w t e d h h₁ M in
+    let B = forward-as-groups L neg w t e d h h₂ N in
+    let all : 2 ^ t * (2 * 2 ^ (7 - t)) ≡ 256 = whole t low in
+    in-halves (2 ^ (7 - t)) (2 ^ t) (pow-pos (7 - t)) (λ j. Same neg (h₁ j) (h₂ j))
+    (λ g o a b. A .at g o a b .low ⨾ same-sym (B .at g o a b .low))
+    (λ g o a b. A .at g o a b .high ⨾ same-sym (B .at g o a b .high)) j (rw all k)
+
+pub inverse-layer-one : {neg : ℕ} (L w i s : ℕ) → L ≤ 8 → s < L → (e d h h₁ h₂ : ℕ → ℕ) →
+    InverseLayer L neg w i (suc s) e d h h₁ → InverseLayer L neg w i (suc s) e d h h₂ → (j : ℕ) → j < 256 → Same neg (h₁ j) (h₂ j)
+inverse-layer-one {neg} L w i s top low e d h h₁ h₂ M N j k =
+    let t : ℕ = L - suc s in
+    let A = inverse-as-groups L neg w i s t e d h h₁ top (omega arith) M in
+    let B = inverse-as-groups L neg w i s t e d h h₂ top (omega arith) N in
+    let all : 2 ^ t * (2 * 2 ^ (7 - t)) ≡ 256 = whole t (omega arith) in
+    in-halves (2 ^ (7 - t)) (2 ^ t) (pow-pos (7 - t)) (λ j. Same neg (h₁ j) (h₂ j))
+    (λ g o a b. A .at g o a b .low ⨾ same-sym (B .at g o a b .low))
+    (λ g o a b. A .at g o a b .high ⨾ same-sym (B .at g o a b .high)) j (rw all k)
 
 -- the inverse before its last layer has no factor yet
 unscaled : (L neg w i s : ℕ) (f : ℕ → ℕ) (j : ℕ) → s < L → inv-stage L neg w i s f j ≡ inv-layers L neg w s f j

@@ -1,8 +1,10 @@
 -- Refusals by number and place, and the checks of a call in their order.
 use Prim.Native.Nat.{ℕ, suc}
-use mathlib.Core.Bool.{Bool, cond}
+use mathlib.Core.Path.{_≡_}
+use mathlib.Core.Bool.{Bool, true, cond}
 use mathlib.Core.List.{List, [], _∷_}
 use mathlib.Core.Option.{Option, none, some}
+use lib.Dec.{ltb}
 use Rattle.std.specs.declared.result.Result.{Result}
 use Rattle.std.specs.declared.result.Result.the-variants.{Ok, Err}
 use Rattle.rings.specs.declared.refusal.Refusal.{Refusal}
@@ -46,6 +48,12 @@ ruling [] = accepted
 ruling (test b e ∷ checks) = cond b (ruling checks) (refused (number-of e) (place-of e))
 ruling (scan o e ∷ checks) = found o e (ruling checks)
 
+-- what it means that none of them refuses
+abbrev pub Passes : List Check → Type 0
+Passes [] = Unit {0}
+Passes (test b e ∷ checks) = (b ≡ true) × Passes checks
+Passes (scan o e ∷ checks) = (o ≡ none) × Passes checks
+
 -- the first index at which a list fails a test
 abbrev pub next : Option ℕ → Option ℕ
 next none = none
@@ -54,3 +62,6 @@ next (some k) = some (suc k)
 abbrev pub flaw : {A : Type 0} → (A → Bool) → List A → Option ℕ
 flaw passes [] = none
 flaw passes (x ∷ xs) = cond (passes x) (next (flaw passes xs)) (some 0)
+
+abbrev pub below : (m x : ℕ) → Bool
+below m x = ltb x m

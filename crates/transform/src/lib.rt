@@ -1,0 +1,8 @@
+mod calls;
+mod checks;
+
+pub use algebra::Direction;
+pub use calls::forward;
+pub use calls::inverse;
+pub use calls::layer;
+pub use calls::multiply;
