@@ -1,4 +1,4 @@
-"""Writes crates/rings/src/powers.rt: the powers of each ring's root, from w^0 to w^255.
+"""Writes crates/roots/src/lib.rt: the powers of each ring's root, from w^0 to w^255.
 
 Run it from the repository's root and format the result by `rt fmt`. The check proves every entry,
 so a wrong line here cannot land.
@@ -19,7 +19,7 @@ def table(name, word, modulus, root):
     return (
         f"const {name}: [{word}; 256] = [\n{rows}];\n\n"
         f"/// {root} to the power of e, modulo {modulus}.\n"
-        f"pub(crate) fn {function}(e: u8) -> {word}\n"
+        f"pub fn {function}(e: u8) -> {word}\n"
         f"    ensures {{ λ r. ⌜ r ≡ ({root} ^ e) % {modulus} ⌝ }}\n"
         f"{{\n    {name}[e as usize]\n}}\n"
     )
@@ -28,7 +28,7 @@ def table(name, word, modulus, root):
 def main():
     head = "// Written by tools/powers.py.\nghost use mathlib.Core.Path.{_≡_};\nghost use Prim.Native.Nat.{_%_, _^_};\n\n"
     tables = [table(name, "u16", modulus, root) for name, modulus, root in PLAIN]
-    with open("crates/rings/src/powers.rt", "w") as out:
+    with open("crates/roots/src/lib.rt", "w") as out:
         out.write(head + "\n".join(tables))
 
 

@@ -1,5 +1,4 @@
 pub mod plain;
-mod powers;
 mod reduction;
 pub mod refusal;
 pub mod ring;

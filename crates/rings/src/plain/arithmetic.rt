@@ -7,7 +7,6 @@ ghost use Rattle.rings.specs.Refusals.{answer, ruling, test as checked};
 ghost use Rattle.rings.specs.Moduli.{is-plain};
 ghost use Rattle.rings.specs.PlainRing.{plain-modulus, plain-ring-root, plain-element, plain-meaning};
 use super::Plain;
-use crate::powers;
 use crate::reduction::reduce;
 use crate::refusal::Refusal;
 use crate::ring::Ring;
@@ -65,9 +64,9 @@ pub impl Ring for Plain as PlainRing {
 
     fn power(&self, e: u8) -> u16 {
         match self.modulus {
-            3329 => powers::plain_3329(e),
-            7681 => powers::plain_7681(e),
-            _ => powers::plain_12289(e),
+            3329 => roots::plain_3329(e),
+            7681 => roots::plain_7681(e),
+            _ => roots::plain_12289(e),
         }
     }
 

@@ -262,7 +262,7 @@ const PLAIN_3329: [u16; 256] = [
 ];
 
 /// 17 to the power of e, modulo 3329.
-pub(crate) fn plain_3329(e: u8) -> u16
+pub fn plain_3329(e: u8) -> u16
     ensures { λ r. ⌜ r ≡ (17 ^ e) % 3329 ⌝ }
 {
     PLAIN_3329[e as usize]
@@ -528,7 +528,7 @@ const PLAIN_7681: [u16; 256] = [
 ];
 
 /// 3844 to the power of e, modulo 7681.
-pub(crate) fn plain_7681(e: u8) -> u16
+pub fn plain_7681(e: u8) -> u16
     ensures { λ r. ⌜ r ≡ (3844 ^ e) % 7681 ⌝ }
 {
     PLAIN_7681[e as usize]
@@ -794,7 +794,7 @@ const PLAIN_12289: [u16; 256] = [
 ];
 
 /// 1260 to the power of e, modulo 12289.
-pub(crate) fn plain_12289(e: u8) -> u16
+pub fn plain_12289(e: u8) -> u16
     ensures { λ r. ⌜ r ≡ (1260 ^ e) % 12289 ⌝ }
 {
     PLAIN_12289[e as usize]
