@@ -11,6 +11,18 @@ PLAIN = [  # name, modulus, root
 ]
 
 
+def joint(name, p, root):
+    """The ring modulo 3329 p: its root leaves 17 by 3329 and the check root by p."""
+    lifted = 17 + 3329 * ((root - 17) * pow(3329, -1, p) % p)
+    return (name, 3329 * p, lifted)
+
+
+JOINT = [
+    joint("JOINT_7681", 7681, 3844),
+    joint("JOINT_12289", 12289, 1260),
+]
+
+
 def table(name, word, modulus, root):
     assert (pow(root, 128, modulus) + 1) % modulus == 0
     powers = [pow(root, e, modulus) for e in range(256)]
@@ -28,6 +40,7 @@ def table(name, word, modulus, root):
 def main():
     head = "// Written by tools/powers.py.\nghost use mathlib.Core.Path.{_≡_};\nghost use Prim.Native.Nat.{_%_, _^_};\n\n"
     tables = [table(name, "u16", modulus, root) for name, modulus, root in PLAIN]
+    tables += [table(name, "u32", modulus, root) for name, modulus, root in JOINT]
     with open("crates/roots/src/lib.rt", "w") as out:
         out.write(head + "\n".join(tables))
 

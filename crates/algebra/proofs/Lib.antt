@@ -18,3 +18,5 @@ pub mod MaskLists
 pub mod Theorems
 pub mod Reciprocal
 pub mod Tables
+pub mod Primes
+pub mod Remainders

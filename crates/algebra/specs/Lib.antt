@@ -6,3 +6,5 @@ pub mod Product
 pub mod Masks
 pub mod Polynomials
 pub mod Theorems
+pub mod Prime
+pub mod Remainders

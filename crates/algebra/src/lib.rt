@@ -1,3 +1,4 @@
+ghost use Rattle.algebra.specs.Prime.{Prime};
 ghost use Rattle.algebra.specs.Theorems.{Transforms, Odd-moduli, ML-KEM, ML-DSA, Mask-lists, Products, Ones};
 
 /// The way of a layer: towards the transform, or back.
@@ -54,6 +55,13 @@ pub fn products_stand() -> u8
 /// The polynomial of all ones: its square, and that a product with it determines the other factor.
 pub fn ones_stand() -> u8
     ensures { λ _. ⌜ Ones ⌝ }
+{
+    0
+}
+
+/// The check moduli are prime.
+pub fn primes_stand() -> u8
+    ensures { λ _. ⌜ Prime 7681 × Prime 12289 ⌝ }
 {
     0
 }

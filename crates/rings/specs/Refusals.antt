@@ -8,11 +8,12 @@ use lib.Dec.{ltb}
 use Rattle.std.specs.declared.result.Result.{Result}
 use Rattle.std.specs.declared.result.Result.the-variants.{Ok, Err}
 use Rattle.rings.specs.declared.refusal.Refusal.{Refusal}
-use Rattle.rings.specs.declared.refusal.Refusal.the-variants.{Length, Modulus, Range, Layer, Masks}
+use Rattle.rings.specs.declared.refusal.Refusal.the-variants.{Length, Modulus, Redundancy, Range, Layer, Masks}
 
 abbrev pub number-of : Refusal → ℕ
 number-of (Length slice) = 1
 number-of Modulus = 3
+number-of Redundancy = 4
 number-of (Range index) = 5
 number-of Layer = 8
 number-of (Masks register) = 23
@@ -20,6 +21,7 @@ number-of (Masks register) = 23
 abbrev pub place-of : Refusal → ℕ
 place-of (Length slice) = slice
 place-of Modulus = 0
+place-of Redundancy = 0
 place-of (Range index) = index
 place-of Layer = 0
 place-of (Masks register) = register

@@ -1,5 +1,5 @@
 pub mod plain;
-mod reduction;
+pub mod reduction;
 pub mod refusal;
 pub mod ring;
 

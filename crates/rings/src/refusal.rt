@@ -8,6 +8,8 @@ pub enum Refusal {
     Length(u8),
     /// A modulus that is not approved.
     Modulus,
+    /// A redundancy number that is not approved.
+    Redundancy,
     /// A coefficient above 3328: its index.
     Range(u8),
     /// A layer number outside 1 to 7.
@@ -24,6 +26,7 @@ impl Refusal {
         match self {
             Refusal::Length(_) => 1,
             Refusal::Modulus => 3,
+            Refusal::Redundancy => 4,
             Refusal::Range(_) => 5,
             Refusal::Layer => 8,
             Refusal::Masks(_) => 23,
@@ -38,7 +41,7 @@ impl Refusal {
             Refusal::Length(place) => place as u16,
             Refusal::Range(place) => place as u16,
             Refusal::Masks(place) => place as u16,
-            Refusal::Modulus | Refusal::Layer => 0,
+            Refusal::Modulus | Refusal::Redundancy | Refusal::Layer => 0,
         }
     }
 }

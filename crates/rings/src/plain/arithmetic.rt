@@ -36,6 +36,13 @@ impl Plain {
             _ => Err(Refusal::Modulus),
         }
     }
+
+    /// The modulus.
+    pub fn size(&self) -> u16
+        ensures { λ r. ⌜ r ≡ plain-modulus (now (self .entry)) ⌝ }
+    {
+        self.modulus
+    }
 }
 
 pub impl Ring for Plain as PlainRing {

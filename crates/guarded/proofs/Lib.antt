@@ -1,0 +1,5 @@
+pub mod Trips
+pub mod Moduli
+pub mod RedundantLawful
+pub mod TwoRemainders
+pub mod PairLawful

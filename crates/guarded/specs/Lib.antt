@@ -1,0 +1,4 @@
+pub mod Model
+pub mod Moduli
+pub mod RedundantRing
+pub mod PairRing
