@@ -20,3 +20,4 @@ pub mod Reciprocal
 pub mod Tables
 pub mod Primes
 pub mod Remainders
+pub mod Reduction

@@ -4,7 +4,7 @@ use mathlib.Core.Path.{_≡_}
 use native.Mathlib.Omega.{arith}
 use lib.Pow.{pow-pos}
 use Rattle.algebra.specs.Congruence.{Same}
-use Rattle.algebra.specs.Layers.{forward, inverse, ForwardPairs, InversePairs, layers, inv-layers}
+use Rattle.algebra.specs.Layers.{forward, inverse, ForwardPairs, InversePairs, layers, inv-layers, ntt}
 use Rattle.algebra.proofs.Modular.{same-of, same-sym, _⨾_, same-add, same-mul-left}
 use Rattle.algebra.proofs.Layers.{in-halves, forward-is, inverse-is}
 use Rattle.algebra.proofs.Inverse.{at-low, at-high, whole}
@@ -53,3 +53,9 @@ module _ {neg : ℕ} (L w : ℕ) (top : L ≤ 8) (c : ℕ) (f g : ℕ → ℕ) (
       (inverse-scale len (2 ^ t) (pow-pos (7 - t)) (zeta-back L w t) c (inv-layers L neg w s f) (inv-layers L neg w s g) _ _
       (λ i q. inv-layers-scale s (suc t) m i (omega arith))
       (inverse-is neg len (2 ^ t) (zeta-back L w t) (inv-layers L neg w s f)) (inverse-is neg len (2 ^ t) (zeta-back L w t) (inv-layers L neg w s g)) j (omega arith))
+
+-- the transform of zeros is zeros
+pub ntt-zero : {neg : ℕ} (L w : ℕ) → L ≤ 8 → (f : ℕ → ℕ) → ((j : ℕ) → j < 256 → Same neg (f j) 0) → (j : ℕ) → j < 256 → Same neg (ntt L neg w f j) 0
+unfolding ntt
+ntt-zero L w top f e j k =
+    layers-scale L w top 0 f f (λ i h. e i h ⨾ same-of (omega arith)) L (omega arith) j k ⨾ same-of (omega arith)

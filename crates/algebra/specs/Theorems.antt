@@ -61,6 +61,11 @@ Transforms = (L neg w i : ℕ) → L ≤ 8 → Same neg (w ^ (2 ^ L)) neg → Sa
 abbrev pub Odd-moduli : Type 0
 Odd-moduli = (L h w : ℕ) → L ≤ 8 → Same (2 * h) (w ^ (2 ^ L)) (2 * h) → Laws L (2 * h) w (suc h ^ L)
 
+-- remainders go through the transform: where suc neg divides suc big, and f and g are equal modulo suc neg, so are their transforms
+abbrev pub Remainders-pass : Type 0
+Remainders-pass = (neg big k L w v : ℕ) → suc big ≡ suc neg * k → L ≤ 8 → Same big (w ^ (2 ^ L)) big → Same neg (v ^ (2 ^ L)) neg → Same neg w v →
+    (f g : ℕ → ℕ) → ((j : ℕ) → j < 256 → Same neg (f j) (g j)) → (j : ℕ) → j < 256 → Same neg (ntt L big w f j) (ntt L neg v g j)
+
 abbrev pub ML-KEM : Type 0
 ML-KEM = Laws 7 3328 17 3303
 

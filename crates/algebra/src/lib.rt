@@ -1,5 +1,5 @@
 ghost use Rattle.algebra.specs.Prime.{Prime};
-ghost use Rattle.algebra.specs.Theorems.{Transforms, Odd-moduli, ML-KEM, ML-DSA, Mask-lists, Products, Ones};
+ghost use Rattle.algebra.specs.Theorems.{Transforms, Odd-moduli, Remainders-pass, ML-KEM, ML-DSA, Mask-lists, Products, Ones};
 
 /// The way of a layer: towards the transform, or back.
 #[derive(Clone, Copy, PartialEq, Eq, Debug)]
@@ -20,6 +20,13 @@ pub fn transforms_stand() -> u8
 /// The same for every odd modulus, which has an inverse of 2^L.
 pub fn odd_moduli_stand() -> u8
     ensures { λ _. ⌜ Odd-moduli ⌝ }
+{
+    0
+}
+
+/// Modulo a product of two numbers, the transform leaves by each of them the transform modulo it.
+pub fn remainders_pass() -> u8
+    ensures { λ _. ⌜ Remainders-pass ⌝ }
 {
     0
 }

@@ -26,7 +26,7 @@ abbrev same-word : ℕ → ℕ
 same-word x = x
 
 module _ (f out : List ℕ) (size : length f ≡ 256) (range : flaw (below 3329) f ≡ none) (room : length out ≡ 256) where
-  transformed-at : Elements (λ (x : ℕ). ltb x 3329) out → Agrees 3328 (coefficient out) (ntt 7 3328 17 (coefficient f)) → Transformed f out
+  pub transformed-at : Elements (λ (x : ℕ). ltb x 3329) out → Agrees 3328 (coefficient out) (ntt 7 3328 17 (coefficient f)) → Transformed f out
   transformed-at E A =
       let is : out ≡ ntt-of f = listed-by 3329 _ out refl room E A in
       record {

@@ -20,6 +20,10 @@ ranged xs = scan (flaw (below 3329) xs) Range
 abbrev pub transform-checks : (f out : List ℕ) → List Check
 transform-checks f out = sized f 0 ∷ sized out 1 ∷ ranged f ∷ []
 
+-- the transform in a guarded ring, over this many words
+abbrev pub guarded-checks : (f : List ℕ) (words : ℕ) (out : List ℕ) → List Check
+guarded-checks f words out = sized f 0 ∷ test (eqb words 256) (Length 1) ∷ sized out 2 ∷ ranged f ∷ []
+
 abbrev pub product-checks : (f g out : List ℕ) → List Check
 product-checks f g out = sized f 0 ∷ sized g 1 ∷ sized out 2 ∷ ranged f ∷ ranged g ∷ []
 

@@ -2,6 +2,8 @@
 use Prim.Native.Nat.{ℕ, _+_, _-_, _*_, _<_}
 use mathlib.Core.Path.{_≡_}
 use mathlib.Core.List.{List}
+use lib.ListN.{getD}
+use Rattle.guarded.specs.Model.{Guarded, Lifted}
 use Rattle.algebra.specs.declared.Direction.{Direction}
 use Rattle.algebra.specs.declared.Direction.the-variants.{Forward, Inverse}
 use Rattle.algebra.specs.Congruence.{Same}
@@ -42,3 +44,7 @@ pub record Layered (way : Direction) (s : ℕ) (incoming outgoing f out : List �
   pub is : out ≡ layer-of 7 3328 17 3303 way s incoming outgoing f
   pub step : (g : ℕ → ℕ) → Holds 3328 17 (mask-after 7 way (s - 1) incoming) (stage way (s - 1) g) (coefficient f) →
       Holds 3328 17 (mask-after 7 way s outgoing) (stage way s g) (coefficient out)
+
+-- each word is one of the elements that leave a coefficient of out by 3329 and 0 by the check modulus
+pub record Words-hold {W : Type 0} (G : Guarded W) (words : List W) (out : List ℕ) : Type 0 where
+  pub at : (j : ℕ) (d : W) → j < 256 → (k : ℕ) × Lifted G (coefficient out j) 0 k (getD words j d)

@@ -3,7 +3,7 @@ ghost use mathlib.Core.List.{[], _∷_};
 ghost use lib.ListN.{length};
 ghost use Rattle.rings.specs.PlainRing.{plain-modulus};
 ghost use Rattle.rings.specs.Refusals.{answer, ruling};
-ghost use Rattle.transform.specs.Checks.{sized as is-sized, ranged as is-ranged, transform-checks, product-checks, mask-checks};
+ghost use Rattle.transform.specs.Checks.{sized as is-sized, ranged as is-ranged, transform-checks, guarded-checks, product-checks, mask-checks};
 use engine::masks::suit;
 use rings::Plain;
 use rings::Refusal;
@@ -38,6 +38,18 @@ pub(crate) fn may_transform(f: &[u16], out: &[u16]) -> Result<(), Refusal>
 {
     sized(f, 0)?;
     sized(out, 1)?;
+    in_range(f)
+}
+
+/// What a transform in a guarded ring checks: its three slices, then the coefficients.
+pub(crate) fn may_transform_guarded(f: &[u16], words: usize, out: &[u16]) -> Result<(), Refusal>
+    ensures { λ r. ⌜ answer r ≡ ruling (guarded-checks (now (f .entry)) words (now (out .entry))) ⌝ }
+{
+    sized(f, 0)?;
+    if words != 256 {
+        return Err(Refusal::Length(1));
+    }
+    sized(out, 2)?;
     in_range(f)
 }
 
