@@ -26,7 +26,7 @@ abbrev pub all : ℕ → (ℕ → Bool) → Bool
 all zero f = true
 all (suc n) f = both (f n) (all n f)
 
-all-at : (n : ℕ) (f : ℕ → Bool) → T (all n f) → (k : ℕ) → k < n → T (f k)
+pub all-at : (n : ℕ) (f : ℕ → Bool) → T (all n f) → (k : ℕ) → k < n → T (f k)
 all-at zero f t k h = absurd (omega arith)
 all-at (suc n) f t k h = go (ℕ-discrete k n) (λ l. all-at n f (both-right (f n) (all n f) t) k l)
   where

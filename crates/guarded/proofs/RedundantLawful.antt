@@ -4,15 +4,15 @@ use mathlib.Core.Path.{_≡_}
 use mathlib.Core.Bool.{true}
 use native.Mathlib.Omega.{arith}
 use native.Mathlib.Nat.{mod-lt}
-use lib.Dec.{ltb}
 use Rattle.std.proofs.shelf.Tests.{lt-ltb, ltb-true}
 use Rattle.algebra.proofs.Remainders.{below-times, only-word, word-mod, word-div, word-below}
-use Rattle.guarded.specs.Model.{Guarded, Lawful}
-use Rattle.guarded.specs.Moduli.{is-check, joint-root}
+use Rattle.guarded.specs.Model.{Lawful}
+use Rattle.guarded.specs.Moduli.{is-check}
+use Rattle.guarded.specs.RedundantRing.{redundant-model}
 use Rattle.guarded.proofs.Moduli.{known-above, known-below, known-prime, known-turned, known-coefficient}
 
 pub redundant-lawful : (p t : ℕ) → is-check p ≡ true → 1 ≤ t → t ≤ 167 →
-    Lawful {W = ℕ} (record { p = p; t = t; w = joint-root p; element = λ w. ltb w (3329 * p * t); meaning = λ w. w % (3329 * p); number = λ w. w / (3329 * p) })
+    Lawful (redundant-model p t)
 redundant-lawful p t h one most =
     let above : 3329 < p = known-above p h in
     let small : p < 12290 = known-below p h in

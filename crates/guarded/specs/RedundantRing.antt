@@ -3,6 +3,7 @@ use Prim.Native.Nat.{ℕ, _*_, _/_, _%_}
 use mathlib.Core.Bool.{Bool}
 use lib.Dec.{ltb}
 use Rattle.guarded.specs.declared.redundant.Redundant.{Redundant}
+use Rattle.guarded.specs.Model.{Guarded}
 use Rattle.guarded.specs.Moduli.{joint-root}
 
 abbrev pub redundant-check : Redundant → ℕ
@@ -28,3 +29,15 @@ redundant-meaning s w = w % (3329 * s .p)
 
 abbrev pub redundant-number : Redundant → ℕ → ℕ
 redundant-number s w = w / (3329 * s .p)
+
+-- the same by p and t
+abbrev pub redundant-model : (p t : ℕ) → Guarded ℕ
+redundant-model p t =
+    record {
+      p = p;
+      t = t;
+      w = joint-root p;
+      element = λ w. ltb w (3329 * p * t);
+      meaning = λ w. w % (3329 * p);
+      number = λ w. w / (3329 * p);
+    }

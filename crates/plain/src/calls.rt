@@ -1,11 +1,17 @@
+use guarded::Pair;
+use guarded::Redundant;
+use guarded::Residues;
 use rings::Refusal;
 use std::alloc::AllocError;
 use std::alloc::Global;
 use transform::Direction;
 use transform::forward;
+use transform::forward_guarded;
 use transform::inverse;
 use transform::layer;
 use transform::multiply;
+use guarded::pair::arithmetic::PairGuarded;
+use guarded::redundant::arithmetic::RedundantGuarded;
 
 /// How a line is answered.
 #[derive(Clone, Copy)]
@@ -100,6 +106,50 @@ fn serve_layer(
     Ok(answered(layer(&f, out, number, way, &incoming, &outgoing)))
 }
 
+// The transform in the redundant ring of p and t.
+fn serve_redundant(
+    heap: Global,
+    p: &str,
+    t: &str,
+    f: &str,
+    out: &mut [u16; 256],
+) -> Result<Reply, AllocError> {
+    let Some(f) = coefficients(heap, f)? else {
+        return Ok(Reply::Unreadable);
+    };
+    let (Ok(p), Ok(t)) = (p.parse::<u32>(), t.parse::<u8>()) else {
+        return Ok(Reply::Unreadable);
+    };
+    match Redundant::approve(p, t) {
+        Ok(ring) => {
+            let mut words = vec![in heap; 0u32; 256]?;
+            Ok(answered(forward_guarded(&ring, &f, &mut words, out)))
+        }
+        Err(refusal) => Ok(Reply::Refused(refusal)),
+    }
+}
+
+// The transform in the pair ring of p.
+fn serve_pair(heap: Global, p: &str, f: &str, out: &mut [u16; 256]) -> Result<Reply, AllocError> {
+    let Some(f) = coefficients(heap, f)? else {
+        return Ok(Reply::Unreadable);
+    };
+    let Ok(p) = p.parse::<u32>() else {
+        return Ok(Reply::Unreadable);
+    };
+    match Pair::approve(p) {
+        Ok(ring) => {
+            let zero = Residues {
+                coefficient: 0,
+                check: 0,
+            };
+            let mut words = vec![in heap; zero; 256]?;
+            Ok(answered(forward_guarded(&ring, &f, &mut words, out)))
+        }
+        Err(refusal) => Ok(Reply::Refused(refusal)),
+    }
+}
+
 // A direction and a layer's number, as a call of a layer names them.
 fn layer_words(way: &str, number: &str) -> Option<(Direction, u8)> {
     let way = match way {
@@ -124,6 +174,8 @@ pub fn serve(heap: Global, line: &str, out: &mut [u16; 256]) -> Result<Reply, Al
         (["forward"], [f]) => serve_one(heap, Direction::Forward, f, out),
         (["inverse"], [f]) => serve_one(heap, Direction::Inverse, f, out),
         (["multiply"], [f, g]) => serve_product(heap, f, g, out),
+        (["redundant", p, t], [f]) => serve_redundant(heap, p, t, f, out),
+        (["pair", p], [f]) => serve_pair(heap, p, f, out),
         (["layer", way, number], [f, incoming, outgoing]) => match layer_words(way, number) {
             Some((way, number)) => serve_layer(heap, way, number, f, incoming, outgoing, out),
             None => Ok(Reply::Unreadable),
