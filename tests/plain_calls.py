@@ -10,10 +10,15 @@ call are separated by `|`, numbers by single blanks:
     multiply | f | g
     layer forward S | f | incoming masks | outgoing masks
     layer inverse S | f | incoming masks | outgoing masks
+    redundant P T | f     the transform in the redundant ring of P and T
+    pair P | f            the transform in the pair ring of P
 
 An answer is `ok` and 256 numbers, or `refused NUMBER PLACE`, or `unreadable`.
-The refusals are, in the order in which they are looked for:
+The refusals are, in the order in which they are looked for (a ring is approved
+before its transform is called):
 
+    3  MODULUS P is not 7681 or 12289; place 0
+    4  REDUNDANCY  T is not odd, or above 167 with 7681 or 103 with 12289; place 0
     1  LENGTH  a slice has not 256 numbers; place 0 for f, 1 for g
     5  RANGE   a coefficient is above 3328; place its index, f before g
     8  LAYER   S is not from 1 to 7; place 0
@@ -570,6 +575,36 @@ def unreadable_calls(draw):
 
 # The whole run.
 
+def guarded_line(ring, f):
+    return line_of(ring, text(f))
+
+
+APPROVED = [f"redundant 7681 {t}" for t in range(1, 168, 2)] + [f"redundant 12289 {t}" for t in range(1, 104, 2)] + ["pair 7681", "pair 12289"]
+NO_MODULUS = [0, 1, 3329, 7680, 7682, 12288, 12290, 65537, 7681 + 65536, 2**32 - 1]
+NO_REDUNDANCY = {7681: [0, *range(2, 168, 2), *range(168, 256)], 12289: [0, *range(2, 104, 2), *range(104, 256)]}
+
+
+def guarded_calls(draw):
+    """Every approved ring transforms; every other modulus and redundancy number is refused."""
+    calls = []
+    for ring in APPROVED:
+        for f in (random_polynomial(draw), [Q - 1] * N):
+            calls.append(Call("guarded transform", guarded_line(ring, f), ok(fips203.ntt(f))))
+        short = random_polynomial(draw)[1:]
+        calls.append(Call("guarded: wrong size", guarded_line(ring, short), refused(1, 0)))
+        spoiled = random_polynomial(draw)
+        spoiled[N - 1] = Q
+        calls.append(Call("guarded: wrong range", guarded_line(ring, spoiled), refused(5, N - 1)))
+    for p in NO_MODULUS:
+        # an even redundancy number too: the modulus is looked at first
+        for ring in (f"redundant {p} 3", f"redundant {p} 2", f"pair {p}"):
+            calls.append(Call("refused: modulus", guarded_line(ring, random_polynomial(draw)), refused(3, 0)))
+    for p, numbers in NO_REDUNDANCY.items():
+        for t in numbers:
+            calls.append(Call("refused: redundancy", guarded_line(f"redundant {p} {t}", random_polynomial(draw)), refused(4, 0)))
+    return calls
+
+
 def run_mixed(program, draw):
     """The single calls, shuffled, so that no call may change the answer to the next."""
     calls = (random_transforms(draw) + random_products(draw) + random_layers(draw)
@@ -585,6 +620,7 @@ def main():
     draw = random.Random(3329)
     program.compare(gamma_calls() + zeta_calls())
     program.compare(extreme_transforms() + extreme_products() + extreme_layers())
+    program.compare(guarded_calls(draw))
     run_mixed(program, draw)
     run_round_trips(program, draw)
     run_ring_products(program, draw)
