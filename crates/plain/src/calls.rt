@@ -1,6 +1,8 @@
 use guarded::Pair;
 use guarded::Redundant;
 use guarded::Residues;
+use guarded::pair::arithmetic::PairGuarded;
+use guarded::redundant::arithmetic::RedundantGuarded;
 use rings::Refusal;
 use std::alloc::AllocError;
 use std::alloc::Global;
@@ -10,8 +12,6 @@ use transform::forward_guarded;
 use transform::inverse;
 use transform::layer;
 use transform::multiply;
-use guarded::pair::arithmetic::PairGuarded;
-use guarded::redundant::arithmetic::RedundantGuarded;
 
 /// How a line is answered.
 #[derive(Clone, Copy)]
