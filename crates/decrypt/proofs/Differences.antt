@@ -14,7 +14,7 @@ use Rattle.algebra.proofs.Sums.{sum-zero, sum-suc}
 use Rattle.algebra.proofs.Lists.{listed-same, listed-polynomial}
 use Rattle.algebra.proofs.Theorems.{ml-kem}
 use Rattle.transform.specs.Results.{ntt-of, inverse-of, Transformed, Inverted, Multiplied}
-use Rattle.decrypt.specs.Decryption.{part, term, Decrypted}
+use Rattle.decrypt.specs.Decryption.{part, term, Rows, Decrypted}
 
 -- the first n coefficients of p were subtracted from w, which now is w′
 pub record Subtracted (n : ℕ) (w p w′ : List ℕ) : Type 0 where
@@ -69,4 +69,19 @@ decrypted-more k u s v w w′ p D e P back = record {
       (same-add (same-refl {x = coefficient w′ j}) (same-add (same-refl {x = sum k (term u s j)}) is)
       ⨾ same-of {y = coefficient w′ j + coefficient p j + sum k (term u s j)} (omega arith)
       ⨾ same-add (back j h) same-refl ⨾ D .restores j h);
+}
+
+pub rows-none : (u s : List ℕ) → Rows 0 u s
+rows-none u s = record { u-row = λ i h. absurd (omega arith); s-row = λ i h. absurd (omega arith) }
+
+pub rows-more : (k : ℕ) (u s : List ℕ) → Rows k u s → Polynomial 3328 (part u k) → Polynomial 3328 (part s k) → Rows (k + 1) u s
+rows-more k u s R P Q = record {
+  u-row = λ i h. elim (decLt i k) [
+    | yes l ↦ R .u-row i l
+    | no l ↦ let e : i ≡ k = omega arith in rw e P
+  ];
+  s-row = λ i h. elim (decLt i k) [
+    | yes l ↦ R .s-row i l
+    | no l ↦ let e : i ≡ k = omega arith in rw e Q
+  ];
 }

@@ -1,44 +1,48 @@
 ghost use mathlib.Core.Path.{_≡_};
 ghost use Prim.Native.Nat.{ℕ, _+_, _*_, _<_};
 ghost use lib.ListN.{length};
-ghost use Rattle.std.specs.Results.{Cases};
 ghost use Rattle.algebra.specs.Congruence.{Same};
 ghost use Rattle.algebra.specs.Polynomials.{coefficient, Polynomial, polynomial-product};
 ghost use Rattle.transform.specs.Results.{inverse-of};
-ghost use Rattle.decrypt.specs.Decryption.{Decrypted};
-use rings::Refusal;
+ghost use Rattle.decrypt.specs.Decryption.{Exactly, Proper, Decrypted};
 use transform::forward;
 use transform::inverse;
 use transform::multiply;
 
-// The product of u and s modulo X^256 + 1, from u and the transform of s.
-fn product(u: &[u16], s: &[u16]) -> Result<[u16; 256], Refusal>
-    ensures { λ r. ⌜ Cases r (λ p. p ≡ polynomial-product 3328 (now (u .entry)) (inverse-of (now (s .entry)))) (λ _. Unit {0}) ⌝ }
+// The product of u and s modulo X^256 + 1, from u and the transform of s; none where one of them is no polynomial.
+fn product(u: &[u16], s: &[u16]) -> Option<[u16; 256]>
+    ensures { λ r. ⌜ Exactly r (Polynomial 3328 (now (u .entry)) × Polynomial 3328 (now (s .entry))) (λ p. p ≡ polynomial-product 3328 (now (u .entry)) (inverse-of (now (s .entry)))) ⌝ }
 {
     let mut transformed = [0u16; 256];
     let mut slots = [0u16; 256];
     let mut result = [0u16; 256];
-    forward(u, &mut transformed)?;
-    multiply(&transformed, s, &mut slots)?;
-    inverse(&slots, &mut result)?;
-    Ok(result)
+    let Ok(()) = forward(u, &mut transformed) else {
+        return None;
+    };
+    let Ok(()) = multiply(&transformed, s, &mut slots) else {
+        return None;
+    };
+    let Ok(()) = inverse(&slots, &mut result) else {
+        return None;
+    };
+    Some(result)
 }
 
-// A polynomial of its own, from a slice of 256 coefficients below 3329.
-fn polynomial(v: &[u16], position: u8) -> Result<[u16; 256], Refusal>
-    ensures { λ r. ⌜ Cases r (λ w. Polynomial 3328 w × (w ≡ now (v .entry))) (λ _. Unit {0}) ⌝ }
+// A copy of v; none where v is no polynomial.
+fn polynomial(v: &[u16]) -> Option<[u16; 256]>
+    ensures { λ r. ⌜ Exactly r (Polynomial 3328 (now (v .entry))) (λ w. w ≡ now (v .entry)) ⌝ }
 {
-    let mut w = [0u16; 256];
     if v.len() != 256 {
-        return Err(Refusal::Length(position));
+        return None;
     }
+    let mut w = [0u16; 256];
     w.copy_from_slice(v);
     for j in 0..256 {
         if w[j] >= 3329 {
-            return Err(Refusal::Range(j as u8));
+            return None;
         }
     }
-    Ok(w)
+    Some(w)
 }
 
 // The difference a - b modulo 3329.
@@ -61,21 +65,19 @@ fn subtract(w: &mut [u16; 256], p: &[u16; 256])
     }
 }
 
-/// v minus the sum of u[i] * s[i], of `rank` polynomials u and as many transformed polynomials s, each row one after the other.
-pub fn decrypt(rank: u8, u: &[u16], s: &[u16], v: &[u16]) -> Result<[u16; 256], Refusal>
-    ensures { λ r. ⌜ Cases r (λ w. Decrypted rank (now (u .entry)) (now (s .entry)) (now (v .entry)) w) (λ _. Unit {0}) ⌝ }
+/// v minus the sum of u[i] * s[i], of `rank` polynomials u and as many transformed polynomials s, each row one after the other; none
+/// where the rows are not so long or a coefficient is above 3328.
+pub fn decrypt(rank: u8, u: &[u16], s: &[u16], v: &[u16]) -> Option<[u16; 256]>
+    ensures { λ r. ⌜ Exactly r (Proper rank (now (u .entry)) (now (s .entry)) (now (v .entry))) (λ w. Decrypted rank (now (u .entry)) (now (s .entry)) (now (v .entry)) w) ⌝ }
 {
     let count = rank as usize;
-    if u.len() != 256 * count {
-        return Err(Refusal::Length(0));
+    if u.len() != 256 * count || s.len() != 256 * count {
+        return None;
     }
-    if s.len() != 256 * count {
-        return Err(Refusal::Length(1));
-    }
-    let mut w = polynomial(v, 2)?;
+    let mut w = polynomial(v)?;
     for i in 0..count {
         let p = product(&u[256 * i..256 * i + 256], &s[256 * i..256 * i + 256])?;
         subtract(&mut w, &p);
     }
-    Ok(w)
+    Some(w)
 }

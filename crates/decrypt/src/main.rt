@@ -36,7 +36,7 @@ fn run(rt: &LibcRuntime) -> Result<(), AnyError> {
         rt,
         "rank {rank}: read {rank} polynomials u, {rank} transformed polynomials s and the polynomial v"
     )?;
-    let Ok(w) = decrypt(
+    let Some(w) = decrypt(
         rank,
         &rest[0..row],
         &rest[row..2 * row],
