@@ -7,6 +7,7 @@ use mathlib.Core.Option.{Option, none, some}
 use native.Mathlib.Omega.{arith}
 use lib.ListN.{length, getD}
 use Rattle.std.proofs.shelf.Tests.{lt-ltb, le-ltb, ltb-true}
+use Rattle.rings.specs.declared.refusal.Refusal.{Refusal}
 use Rattle.rings.specs.Refusals.{accepted, Check, test, scan, ruling, Passes, next, flaw, below}
 
 pub flaw-at : {A : Type 0} (t : A → Bool) (xs : List A) (i : ℕ) (d : A) → i < length xs →
@@ -46,7 +47,7 @@ pub low-at : (m : ℕ) (xs : List ℕ) → flaw (below m) xs ≡ none → (k : �
 low-at m xs h k l = ltb-true (getD xs k 0) m (at-none (below m) xs h k 0 l)
 
 -- an accepted call passed all of its checks
-pub passes : (checks : List Check) → accepted ≡ ruling checks → Passes checks
+pub passes : (checks : List (Check Refusal)) → accepted ≡ ruling checks → Passes checks
 passes [] h = tt
 passes (test true e ∷ checks) h = (refl, passes checks h)
 passes (test false e ∷ checks) h = let z : _≡_ {A = ℕ} 0 1 = cc in absurd (omega arith)

@@ -1,0 +1,17 @@
+pub mod Asked
+pub mod Basics
+pub mod Forms
+pub mod Rulings
+pub mod Local
+pub mod Struck
+pub mod Turning
+pub mod Joining
+pub mod Invariant
+pub mod Main
+pub mod Paired
+pub mod Stepped
+pub mod Cancelling
+pub mod Injective
+pub mod Together
+pub mod Reduced
+pub mod Whole

@@ -1,0 +1,5 @@
+pub mod register;
+pub mod statement;
+
+pub use register::Form;
+pub use register::Register;
