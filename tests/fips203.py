@@ -140,40 +140,16 @@ def bit_rev7(i):
 
 def ntt(f):
     """Algorithm 9."""
-    f = list(f)
-    i = 1
-    length = 128
-    while length >= 2:
-        for start in range(0, N, 2 * length):
-            zeta = pow(ZETA, bit_rev7(i), Q)
-            i += 1
-            for j in range(start, start + length):
-                t = zeta * f[j + length] % Q
-                f[j + length] = (f[j] - t) % Q
-                f[j] = (f[j] + t) % Q
-        length //= 2
-    return f
+    return ntt_states(f)[7]
 
 
 def inverse_ntt(f):
     """Algorithm 10."""
-    f = list(f)
-    i = 127
-    length = 2
-    while length <= 128:
-        for start in range(0, N, 2 * length):
-            zeta = pow(ZETA, bit_rev7(i), Q)
-            i -= 1
-            for j in range(start, start + length):
-                t = f[j]
-                f[j] = (t + f[j + length]) % Q
-                f[j + length] = zeta * (f[j + length] - t) % Q
-        length *= 2
-    return [x * INVERSE_OF_128 % Q for x in f]
+    return inverse_ntt_states(f)[7]
 
 
 def ntt_states(f):
-    """Algorithm 9, stopped after each of its seven values of len.
+    """Algorithm 9, with the list after each of its seven values of len.
 
     Element 0 is f itself, element s the list after layer s.
     """
@@ -193,7 +169,7 @@ def ntt_states(f):
 
 
 def inverse_ntt_states(f):
-    """Algorithm 10, stopped after each of its seven values of len.
+    """Algorithm 10, with the list after each of its seven values of len.
 
     Element 0 is f itself, element s the list after layer s.  The product by
     the inverse of 128 counts as a part of layer 7.

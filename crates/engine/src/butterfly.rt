@@ -9,7 +9,7 @@ use crate::masks::Masks;
 use rings::Ring;
 
 /// A masked forward butterfly: the words at i and j come under the masks e1 and e2, and go under e3.
-pub fn forward_butterfly<R: Ring>(
+pub(crate) fn forward_butterfly<R: Ring>(
     ring: &R,
     words: &mut [R::Word],
     i: usize,
@@ -32,7 +32,7 @@ pub fn forward_butterfly<R: Ring>(
 }
 
 /// A masked inverse butterfly: the words at i and j come under the mask e, and go under o1 and o2.
-pub fn inverse_butterfly<R: Ring>(
+pub(crate) fn inverse_butterfly<R: Ring>(
     ring: &R,
     words: &mut [R::Word],
     i: usize,
@@ -57,7 +57,7 @@ pub fn inverse_butterfly<R: Ring>(
 }
 
 /// The butterflies of one group of a forward layer.
-pub fn forward_group<R: Ring>(
+pub(crate) fn forward_group<R: Ring>(
     ring: &R,
     words: &mut [R::Word],
     group: usize,
@@ -92,7 +92,7 @@ pub fn forward_group<R: Ring>(
 }
 
 /// The butterflies of one group of an inverse layer.
-pub fn inverse_group<R: Ring>(
+pub(crate) fn inverse_group<R: Ring>(
     ring: &R,
     words: &mut [R::Word],
     group: usize,

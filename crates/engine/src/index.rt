@@ -134,7 +134,7 @@ const REVERSED: [u8; 128] = [
 ];
 
 /// The seven bits of x, reversed.
-pub fn reversed(x: u8) -> u8
+pub(crate) fn reversed(x: u8) -> u8
     requires { ⌜ x < 128 ⌝ }
     ensures { λ r. ⌜ r ≡ bitrev 7 x ⌝ }
 {
@@ -142,7 +142,7 @@ pub fn reversed(x: u8) -> u8
 }
 
 /// Half the positions of a group of forward layer `layer`.
-pub fn forward_half(layer: u8) -> usize
+pub(crate) fn forward_half(layer: u8) -> usize
     requires { ⌜ 1 ≤ layer ⌝ ∗ ⌜ layer ≤ 7 ⌝ }
     ensures { λ r. ⌜ r ≡ forward-len layer ⌝ }
 {
@@ -158,7 +158,7 @@ pub fn forward_half(layer: u8) -> usize
 }
 
 /// The number of groups of forward layer `layer`.
-pub fn forward_count(layer: u8) -> usize
+pub(crate) fn forward_count(layer: u8) -> usize
     requires { ⌜ 1 ≤ layer ⌝ ∗ ⌜ layer ≤ 7 ⌝ }
     ensures { λ r. ⌜ r ≡ forward-groups layer ⌝ }
 {
@@ -174,7 +174,7 @@ pub fn forward_count(layer: u8) -> usize
 }
 
 /// Half the positions of a group of inverse layer `layer`.
-pub fn inverse_half(layer: u8) -> usize
+pub(crate) fn inverse_half(layer: u8) -> usize
     requires { ⌜ 1 ≤ layer ⌝ ∗ ⌜ layer ≤ 7 ⌝ }
     ensures { λ r. ⌜ r ≡ inverse-len 7 layer ⌝ }
 {
@@ -182,7 +182,7 @@ pub fn inverse_half(layer: u8) -> usize
 }
 
 /// The number of groups of inverse layer `layer`.
-pub fn inverse_count(layer: u8) -> usize
+pub(crate) fn inverse_count(layer: u8) -> usize
     requires { ⌜ 1 ≤ layer ⌝ ∗ ⌜ layer ≤ 7 ⌝ }
     ensures { λ r. ⌜ r ≡ inverse-groups 7 layer ⌝ }
 {

@@ -68,7 +68,7 @@ fn inverse_butterflies<R: Ring>(
 }
 
 /// Divides every word by 128.
-pub fn scale<R: Ring>(ring: &R, words: &mut [R::Word])
+pub(crate) fn scale<R: Ring>(ring: &R, words: &mut [R::Word])
     requires size { ⌜ length (now words) ≡ 256 ⌝ }
     requires all { ⌜ Elements (element (now ring)) (now words) ⌝ }
     ensures all { λ _. ⌜ Elements (element (now (ring .entry))) (now (words .exit)) ⌝ }

@@ -1,5 +1,5 @@
-pub mod butterfly;
-pub mod index;
+mod butterfly;
+mod index;
 pub mod layer;
 pub mod masks;
 pub mod product;

@@ -8,7 +8,7 @@ ghost use Rattle.algebra.specs.Masks.{is-list-length, suits, block};
 
 /// A list of masks. Butterfly n carries the byte of its block; where the list is empty, no butterfly carries a mask.
 #[derive(Clone, Copy)]
-pub struct Masks<'a> {
+pub(crate) struct Masks<'a> {
     bytes: &'a [u8],
     // a block has 2^shift butterflies
     shift: u8,
@@ -32,7 +32,7 @@ pub fn suit(layers: u8, list: &[u8]) -> bool
 
 impl<'a> Masks<'a> {
     /// The masks of a list that is empty or has 1, 2, 4, 8, 16, 32, 64 or 128 bytes.
-    pub fn new(bytes: &'a [u8]) -> Self
+    pub(crate) fn new(bytes: &'a [u8]) -> Self
         requires { ⌜ (eqb (length (now bytes)) 0 || is-list-length (length (now bytes))) ≡ true ⌝ }
         ensures { λ r. ⌜ held (r .bytes) ≡ now (bytes .entry) ⌝ }
     {
@@ -50,7 +50,7 @@ impl<'a> Masks<'a> {
     }
 
     /// The mask that butterfly n carries.
-    pub fn at(&self, n: usize) -> u8
+    pub(crate) fn at(&self, n: usize) -> u8
         ensures { λ r. ⌜ r ≡ getD (held (now (self .entry) .bytes)) (block (held (now (self .entry) .bytes)) n) 0 ⌝ }
     {
         let block = n >> self.shift;
