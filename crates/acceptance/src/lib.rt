@@ -1,3 +1,5 @@
+#![tactic(auto)]
+
 // Examples of what the public calls take and refuse; each is proved, and then run. Nothing outside uses this crate.
 
 #[cfg(test)]

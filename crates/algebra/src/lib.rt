@@ -1,3 +1,5 @@
+#![tactic(auto)]
+
 ghost use Rattle.algebra.specs.Prime.{Prime};
 ghost use Rattle.algebra.specs.Theorems.{Transforms, OddModuli, RemaindersPass, MlKem, MlDsa, MaskLists, Products, Ones};
 

@@ -1,3 +1,5 @@
+#![tactic(auto)]
+
 mod butterfly;
 pub mod index;
 pub mod layer;

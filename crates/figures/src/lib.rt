@@ -1,3 +1,5 @@
+#![tactic(auto)]
+
 ghost use Rattle.figures.specs.Figures.{Figures};
 
 /// Worked values of the definitions, which the rule book quotes.

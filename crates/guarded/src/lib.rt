@@ -1,3 +1,5 @@
+#![tactic(auto)]
+
 pub mod pair;
 pub mod redundant;
 pub mod ring;

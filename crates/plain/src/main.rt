@@ -1,3 +1,5 @@
+#![tactic(auto)]
+
 mod calls;
 
 use calls::{Reply, serve};

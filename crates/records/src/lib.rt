@@ -1,3 +1,5 @@
+#![tactic(auto)]
+
 pub mod checks;
 pub(crate) mod forms;
 pub mod joins;

@@ -1,3 +1,5 @@
+#![tactic(auto)]
+
 pub mod plain;
 pub mod reduction;
 pub mod refusal;

@@ -1,3 +1,5 @@
+#![tactic(auto)]
+
 // Written by tools/powers.py.
 ghost use Rattle.std.specs.Prelude.{◌≡◌, ◌%◌, ◌^◌};
 

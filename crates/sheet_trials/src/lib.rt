@@ -1,3 +1,5 @@
+#![tactic(auto)]
+
 // Examples of sheets, read and refused; each is proved, and then run. Nothing outside uses this crate.
 
 #[cfg(test)]

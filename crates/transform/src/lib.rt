@@ -1,3 +1,5 @@
+#![tactic(auto)]
+
 mod blinded;
 mod calls;
 mod checks;

@@ -1,3 +1,5 @@
+#![tactic(auto)]
+
 // Examples of what a workspace takes, refuses and finds; each is proved, and then run. Nothing outside uses this crate.
 
 #[cfg(test)]

@@ -1,3 +1,5 @@
+#![tactic(auto)]
+
 ghost use Rattle.std.specs.Prelude.{◌≡◌, length};
 ghost use Rattle.guarded.specs.Model.{guarded as model};
 ghost use Rattle.histories.specs.Calls.{checks};

@@ -1,3 +1,5 @@
+#![tactic(auto)]
+
 mod scratch;
 mod verdict;
 pub mod workspace;
