@@ -13,25 +13,25 @@ returns g c =
     let h = g.G.GuardedRing in
     let model = guarded h.check h.redundancy r.root r.element r.meaning h.number in
     let ring = c.args.space.now.ring in
-    let sums = c.in-ok-sum-products.ensures in
+    let sums = c.in_ok-sum_products.ensures in
     let ring₁ = sums.keeps in
-    let turns = c.in-ok-turn-all.ensures in
+    let turns = c.in_ok-turn_all.ensures in
     let ring₂ = turns.keeps ∙ ring₁ in
-    let load = c.in-ok-load.ensures in
+    let load = c.in_ok-load.ensures in
     let ring₃ = load.keeps ∙ ring₂ in
-    let minus = c.in-ok-subtract.ensures in
+    let minus = c.in_ok-subtract.ensures in
     let ring₄ = minus.keeps ∙ ring₃ in
-    let s₁ = state c.sum-products.new.space.table in
-    let s₂ = state c.turn-all.new.space.table in
+    let s₁ = state c.sum_products.new.space.table in
+    let s₂ = state c.turn_all.new.space.table in
     let s₄ = state c.subtract.new.self.table in
     let us = c.args.u.now in
     let ss = c.args.s.now in
     record {
       keeps = ring₄;
       right = λ L t.
-          let kept = finishes (model ring) s₁ s₂ _ s₄ c.sum-products.new.words c.turn-all.new.words _ c.subtract.new.words c.args.v.now (products us ss (c.args.rank - 1)) _ _ (omega arith) (omega arith)
+          let kept = finishes (model ring) s₁ s₂ _ s₄ c.sum_products.new.words c.turn_all.new.words _ c.subtract.new.words c.args.v.now (products us ss (c.args.rank - 1)) _ _ (omega arith) (omega arith)
           (sums.summed L t)
-          (subst (λ q. Turned (model q) s₁ c.sum-products.new.words s₂ c.turn-all.new.words Inverse 2) ring₁ turns.turned)
+          (subst (λ q. Turned (model q) s₁ c.sum_products.new.words s₂ c.turn_all.new.words Inverse 2) ring₁ turns.turned)
           (serves_in model ring₂ load.serves) (serves_in model ring₃ minus.serves) in
-          restored c.args.rank us ss c.args.v.now c.release.new.out (omega arith) (released model ring₄ kept (omega arith) c.in-ok-release.ensures.judged);
+          restored c.args.rank us ss c.args.v.now c.release.new.out (omega arith) (released model ring₄ kept (omega arith) c.in_ok-release.ensures.judged);
     }

@@ -11,15 +11,15 @@ returns g c =
     let r = g.G.Ring in
     let h = g.G.GuardedRing in
     let model = guarded h.check h.redundancy r.root r.element r.meaning h.number in
-    let first = c.in-ok-load.ensures in
-    let all = c.in-ok-turn-all.ensures in
-    let second = c.in-ok-load-hat.ensures in
+    let first = c.in_ok-load.ensures in
+    let all = c.in_ok-turn_all.ensures in
+    let second = c.in_ok-load_hat.ensures in
     let ring₁ = first.keeps in
     let ring₂ = all.keeps ∙ ring₁ in
     record {
       keeps = second.keeps ∙ ring₂;
       paired =
           pairs (model c.args.space.now.ring) _ _ _ _ _ _ _ _ _ _ _ _ _ _ (omega arith) (omega arith) first.serves
-          (subst (λ q. Turned (model q) (state c.load.new.self.table) c.load.new.words (state c.turn-all.new.space.table) c.turn-all.new.words Forward 0) ring₁ all.turned)
+          (subst (λ q. Turned (model q) (state c.load.new.self.table) c.load.new.words (state c.turn_all.new.space.table) c.turn_all.new.words Forward 0) ring₁ all.turned)
           (serves_in model ring₂ second.serves);
     }

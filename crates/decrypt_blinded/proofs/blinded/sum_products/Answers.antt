@@ -8,10 +8,10 @@ use Rattle.decrypt_blinded.specs.Decryption.{part}
 use Rattle.decrypt_blinded.proofs.Stepping.{serves_in, keeps_in, begins, continues_at, row_lent}
 use Rattle.decrypt_blinded.proofs.blinded.sum_products.Goals as goal
 
-pub returns-in-err-load-pair-2 : goal.returns-in-err-load-pair-2
-returns-in-err-load-pair-2 g c =
-    let p = err_from_is_err_and c.from-residual-in-err-load-pair-2.result c.from-residual-in-err-load-pair-2.ensures.1 in
-    record { keeps = c.in-err-load-pair-2.ensures.keeps ∙ c.loop-i.invariant.0 ∙ c.in-ok-multiply.ensures.keeps ∙ c.in-ok-load-pair.ensures.keeps; summed = rw p.1 tt }
+pub returns-in_err-load_pair-2 : goal.returns-in_err-load_pair-2
+returns-in_err-load_pair-2 g c =
+    let p = err_from_is_err_and c.from-residual-in_err-load_pair-2.result c.from-residual-in_err-load_pair-2.ensures.1 in
+    record { keeps = c.in_err-load_pair-2.ensures.keeps ∙ c.loop-i.invariant.0 ∙ c.in_ok-multiply.ensures.keeps ∙ c.in_ok-load_pair.ensures.keeps; summed = rw p.1 tt }
 
 pub loop-i-init : goal.loop-i-init
 loop-i-init g c = (refl, λ k. k)
@@ -25,14 +25,14 @@ loop-i-preserved g c =
     let us = c.args.u.now in
     let ss = c.args.s.now in
     let ring₁ = c.loop-i.invariant.0 in
-    let pair = c.in-ok-load-pair-2.ensures in
+    let pair = c.in_ok-load_pair-2.ensures in
     let ring₂ = pair.keeps ∙ ring₁ in
-    let first = c.in-ok-multiply-2.ensures in
+    let first = c.in_ok-multiply-2.ensures in
     let ring₃ = first.keeps ∙ ring₂ in
-    let second = c.in-ok-add.ensures in
+    let second = c.in_ok-add.ensures in
     let s₁ = state c.loop-i.space.table in
-    let s₂ = state c.load-pair-in-loop-i.new.space.table in
-    let w₂ = c.load-pair-in-loop-i.new.words in
+    let s₂ = state c.load_pair-in-loop-i.new.space.table in
+    let w₂ = c.load_pair-in-loop-i.new.words in
     let paired =
     subst (λ q. Paired (model q) s₁ c.loop-i.words s₂ w₂ (part us i) (part ss i)) ring₁
     (rw (← row_lent us i, ← row_lent ss i) pair.paired) in (
@@ -46,9 +46,9 @@ returns g c =
     let r = g.G.Ring in
     let h = g.G.GuardedRing in
     let model = guarded h.check h.redundancy r.root r.element r.meaning h.number in
-    let pair = c.in-ok-load-pair.ensures in
+    let pair = c.in_ok-load_pair.ensures in
     let ring₁ = pair.keeps in
-    let product = c.in-ok-multiply.ensures in
+    let product = c.in_ok-multiply.ensures in
     let ring₂ = product.keeps ∙ ring₁ in
     let us = c.args.u.now in
     let ss = c.args.s.now in

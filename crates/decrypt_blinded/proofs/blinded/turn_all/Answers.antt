@@ -12,9 +12,9 @@ loop-n-preserved g c =
     let h = g.G.GuardedRing in
     let model = guarded h.check h.redundancy r.root r.element r.meaning h.number in
     let ring = c.loop-n.invariant.0 in (
-      c.in-ok-turn-one.ensures.keeps ∙ ring,
+      c.in_ok-turn_one.ensures.keeps ∙ ring,
       λ L f e t. turned_more (model c.args.space.now.ring) _ _ _ _ c.args.way c.args.r _ c.loop-n.n L f (omega arith)
-          (serves_in model ring c.in-ok-turn-one.ensures.serves) (c.loop-n.invariant.1 L f e t),
+          (serves_in model ring c.in_ok-turn_one.ensures.serves) (c.loop-n.invariant.1 L f e t),
     )
 
 pub returns : goal.returns

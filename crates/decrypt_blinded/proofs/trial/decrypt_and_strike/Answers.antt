@@ -12,5 +12,5 @@ returns g c =
     let h = g.G.GuardedRing in
     let model = guarded h.check h.redundancy r.root r.element r.meaning h.number c.args.space.now.ring in
     let words = c.args.words.now in
-    c.in-ok-decrypt.ensures.right (λ (q : ℕ). nothing)
+    c.in_ok-decrypt.ensures.right (λ (q : ℕ). nothing)
     (subst (λ (s : State). Tracked model s words (λ (q : ℕ). nothing)) (sym c.requires.opened) (tracks_opened model words c.requires.sizes.0))

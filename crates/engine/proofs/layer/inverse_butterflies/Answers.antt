@@ -16,32 +16,32 @@ loop-group-init g c = layer_none _ _ _ _ _ c.requires.all
 pub reversed-z-requires : goal.reversed-z-requires
 reversed-z-requires g c =
     let groups : 2 ^ (7 - c.args.layer) ≤ 64 = few (7 - c.args.layer) (omega arith) in
-    omega (arith, c.inverse-count-count.ensures)
+    omega (arith, c.inverse_count-count.ensures)
 
-pub inverse-group-requires : goal.inverse-group-requires
-inverse-group-requires g c =
+pub inverse_group-requires : goal.inverse_group-requires
+inverse_group-requires g c =
     let within = c.loop-group-test.true in
     record {
       size = omega arith;
-      inside = rw c.inverse-half-len.ensures (inverse_fits c.args.layer c.loop-group.group (omega arith) (omega arith) (rw c.inverse-count-count.ensures at within));
+      inside = rw c.inverse_half-len.ensures (inverse_fits c.args.layer c.loop-group.group (omega arith) (omega arith) (rw c.inverse_count-count.ensures at within));
       all = c.loop-group.invariant.all;
     }
 
 pub loop-group-preserved : goal.loop-group-preserved
 loop-group-preserved g c =
-    inverse_next _ _ _ _ c.args.layer c.inverse-half-len.result c.args.before.now c.args.list.now _ _ c.new-came.ensures c.new-goes.ensures
+    inverse_next _ _ _ _ c.args.layer c.inverse_half-len.result c.args.before.now c.args.list.now _ _ c.new-came.ensures c.new-goes.ensures
     c.loop-group.group c.reversed-z.result _ _ _
-    (inverse_exponent_by c.args.layer c.inverse-count-count.result c.loop-group.group c.reversed-z.result c.requires.number.1 c.inverse-count-count.ensures c.reversed-z.ensures)
-    c.loop-group.invariant c.inverse-group.ensures
+    (inverse_exponent_by c.args.layer c.inverse_count-count.result c.loop-group.group c.reversed-z.result c.requires.number.1 c.inverse_count-count.ensures c.reversed-z.ensures)
+    c.loop-group.invariant c.inverse_group.ensures
 
 pub returns : goal.returns
 returns g c =
     let s = c.args.ring.now in
-    let end : c.loop-group.group ≡ c.inverse-count-count.result = omega arith in
+    let end : c.loop-group.group ≡ c.inverse_count-count.result = omega arith in
     record {
       all = c.loop-group.invariant.all;
       went =
           went_back_unscaled (g.R.Ring.element s) (g.R.Ring.meaning s) (g.R.Ring.modulus s) (g.R.Ring.root s) (g.met.R.Ring.halfway s)
-          c.args.before.now c.args.list.now c.loop-group.group c.inverse-half-len.result _ _ c.args.layer
-          c.requires.number.0 c.requires.number.1 c.requires.lists.0 c.requires.lists.1 c.inverse-half-len.ensures (end ∙ c.inverse-count-count.ensures) c.loop-group.invariant;
+          c.args.before.now c.args.list.now c.loop-group.group c.inverse_half-len.result _ _ c.args.layer
+          c.requires.number.0 c.requires.number.1 c.requires.lists.0 c.requires.lists.1 c.inverse_half-len.ensures (end ∙ c.inverse_count-count.ensures) c.loop-group.invariant;
     }

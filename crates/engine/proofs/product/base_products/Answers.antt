@@ -3,11 +3,11 @@ use Rattle.engine.proofs.Rows.{held_at}
 use Rattle.engine.proofs.Slots.{slots_none, slots_more, slots_elements, slots_all, rev_small}
 use Rattle.engine.proofs.product.base_products.Goals as goal
 
-pub overflow-mul-reversed : goal.overflow-mul-reversed
-overflow-mul-reversed g c = omega (arith, rev_small 7 c.loop-slot.slot, c.reversed.ensures)
+pub overflow_mul-reversed : goal.overflow_mul-reversed
+overflow_mul-reversed g c = omega (arith, rev_small 7 c.loop-slot.slot, c.reversed.ensures)
 
-pub overflow-add-reversed : goal.overflow-add-reversed
-overflow-add-reversed g c = omega (arith, rev_small 7 c.loop-slot.slot, c.reversed.ensures)
+pub overflow_add-reversed : goal.overflow_add-reversed
+overflow_add-reversed g c = omega (arith, rev_small 7 c.loop-slot.slot, c.reversed.ensures)
 
 pub loop-slot-preserved : goal.loop-slot-preserved
 loop-slot-preserved g c =
@@ -20,7 +20,7 @@ loop-slot-preserved g c =
     (sym (held_at meaning c.args.left.now (i + 1) _ (omega arith) c.index-left-i-in-loop-slot.is))
     (sym (held_at meaning c.args.right.now i _ (omega arith) c.index-right-i.is))
     (sym (held_at meaning c.args.right.now (i + 1) _ (omega arith) c.index-right-i-in-loop-slot.is))
-    c.loop-slot.invariant c.slot-product-low.ensures.first c.slot-product-low.ensures.second c.slot-product-low.ensures.product
+    c.loop-slot.invariant c.slot_product-low.ensures.first c.slot_product-low.ensures.second c.slot_product-low.ensures.product
 
 pub returns : goal.returns
 returns g c =

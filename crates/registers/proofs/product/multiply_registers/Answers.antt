@@ -10,14 +10,14 @@ use Rattle.registers.proofs.product.multiply_registers.Goals as goal
 pub loop-slot-init : goal.loop-slot-init
 loop-slot-init g c = filled_none _ _ _
 
-pub overflow-mul-reversed : goal.overflow-mul-reversed
-overflow-mul-reversed g c = omega (arith, rev_small 7 c.loop-slot.slot, c.reversed.ensures)
+pub overflow_mul-reversed : goal.overflow_mul-reversed
+overflow_mul-reversed g c = omega (arith, rev_small 7 c.loop-slot.slot, c.reversed.ensures)
 
-pub overflow-add-reversed : goal.overflow-add-reversed
-overflow-add-reversed g c = omega (arith, rev_small 7 c.loop-slot.slot, c.reversed.ensures)
+pub overflow_add-reversed : goal.overflow_add-reversed
+overflow_add-reversed g c = omega (arith, rev_small 7 c.loop-slot.slot, c.reversed.ensures)
 
-pub slot-product-low-requires : goal.slot-product-low-requires
-slot-product-low-requires g c =
+pub slot_product-low-requires : goal.slot_product-low-requires
+slot_product-low-requires g c =
     let n = 2 * c.loop-slot.slot in
     let here : n < 256 = omega arith in
     let next : n + 1 < 256 = omega arith in
@@ -55,12 +55,12 @@ loop-slot-preserved g c =
     let small = g.met.G.Ring.below s _ c.power-c.ensures.stays in
     slot_more _ c.loop-slot.slot _ _ _ _ _ (omega arith) slot f
     (record {
-      stays = c.slot-product-low.ensures.first;
-      means = slot_low _ _ c.loop-slot.slot _ _ _ _ _ _ _ _ _ _ slot small c.reversed.ensures c.power-c.ensures.means a0 a1 b0 b1 c.slot-product-low.ensures.product;
+      stays = c.slot_product-low.ensures.first;
+      means = slot_low _ _ c.loop-slot.slot _ _ _ _ _ _ _ _ _ _ slot small c.reversed.ensures c.power-c.ensures.means a0 a1 b0 b1 c.slot_product-low.ensures.product;
     })
     (record {
-      stays = c.slot-product-low.ensures.second;
-      means = slot_high _ _ c.loop-slot.slot _ _ _ _ _ _ _ _ _ _ slot small c.reversed.ensures c.power-c.ensures.means a0 a1 b0 b1 c.slot-product-low.ensures.product;
+      stays = c.slot_product-low.ensures.second;
+      means = slot_high _ _ c.loop-slot.slot _ _ _ _ _ _ _ _ _ _ slot small c.reversed.ensures c.power-c.ensures.means a0 a1 b0 b1 c.slot_product-low.ensures.product;
     })
 
 pub returns : goal.returns

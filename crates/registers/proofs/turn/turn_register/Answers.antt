@@ -3,16 +3,16 @@ use Rattle.guarded.specs.Model.{guarded}
 use Rattle.registers.proofs.Turning.{lent_size, lent_elements, returned_only, forward_placed, inverse_placed}
 use Rattle.registers.proofs.turn.turn_register.Goals as goal
 
-pub forward-layer-requires : goal.forward-layer-requires
-forward-layer-requires g c = record {
+pub forward_layer-requires : goal.forward_layer-requires
+forward_layer-requires g c = record {
   number = c.requires.number;
   size = lent_size c.args.words.now c.args.r c.requires.size.0 c.requires.size.1;
   lists = c.requires.lists;
   all = lent_elements _ c.args.words.now c.args.r c.requires.tested;
 }
 
-pub inverse-layer-requires : goal.inverse-layer-requires
-inverse-layer-requires g c = record {
+pub inverse_layer-requires : goal.inverse_layer-requires
+inverse_layer-requires g c = record {
   number = c.requires.number;
   size = lent_size c.args.words.now c.args.r c.requires.size.0 c.requires.size.1;
   lists = c.requires.lists;

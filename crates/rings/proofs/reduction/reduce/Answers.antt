@@ -2,11 +2,11 @@ use Rattle.std.proofs.Common.{◌*◌, ◌/◌, ◌^◌, arith, lit<, rules}
 use Rattle.algebra.proofs.Reciprocal.{quotient_low, quotient_high, rest_below, rest_above}
 use Rattle.rings.proofs.reduction.reduce.Goals as goal
 
-pub overflow-mul-rest : goal.overflow-mul-rest
-overflow-mul-rest c = omega (arith, quotient_low (2 ^ 32) c.args.m c.args.x c.args.r c.requires.reciprocal (lit< tt))
+pub overflow_mul-rest : goal.overflow_mul-rest
+overflow_mul-rest c = omega (arith, quotient_low (2 ^ 32) c.args.m c.args.x c.args.r c.requires.reciprocal (lit< tt))
 
-pub overflow-sub-rest : goal.overflow-sub-rest
-overflow-sub-rest c = quotient_low (2 ^ 32) c.args.m c.args.x c.args.r c.requires.reciprocal (lit< tt)
+pub overflow_sub-rest : goal.overflow_sub-rest
+overflow_sub-rest c = quotient_low (2 ^ 32) c.args.m c.args.x c.args.r c.requires.reciprocal (lit< tt)
 
 pub returns-then-rest-m : goal.returns-then-rest-m
 returns-then-rest-m c =

@@ -11,20 +11,20 @@ returns-then-content-sheet c = short c.args.sheet.now c.args.at (omega arith) (o
 pub returns-then-content-n : goal.returns-then-content-n
 returns-then-content-n c = past c.args.sheet.now c.args.at (omega arith) (omega arith) (omega arith)
 
-pub returns-in-default : goal.returns-in-default
-returns-in-default c = unknown c.args.sheet.now c.args.at (omega arith) (omega arith) c.in-default.ensures.kind
+pub returns-in_default : goal.returns-in_default
+returns-in_default c = unknown c.args.sheet.now c.args.at (omega arith) (omega arith) c.in_default.ensures.kind
 
-pub returns-then-not-may-stand : goal.returns-then-not-may-stand
-returns-then-not-may-stand c =
-    misplaced c.args.sheet.now c.args.at (omega arith) (omega arith) c.in-Some.kind c.in-Some.ensures.kind c.if-not-may-stand.ensures
+pub returns-then-not-may_stand : goal.returns-then-not-may_stand
+returns-then-not-may_stand c =
+    misplaced c.args.sheet.now c.args.at (omega arith) (omega arith) c.in-Some.kind c.in-Some.ensures.kind c.if-not-may_stand.ensures
 
 pub returns-then-n-least : goal.returns-then-n-least
 returns-then-n-least c =
-    misfit c.args.sheet.now c.args.at (omega arith) (omega arith) c.in-Some.kind c.in-Some.ensures.kind c.if-not-may-stand.ensures (search rules)
+    misfit c.args.sheet.now c.args.at (omega arith) (omega arith) c.in-Some.kind c.in-Some.ensures.kind c.if-not-may_stand.ensures (search rules)
 
 pub returns : goal.returns
 returns c = record {
-  sound = fitting c.args.sheet.now c.args.at (omega arith) (omega arith) c.in-Some.kind c.in-Some.ensures.kind c.if-not-may-stand.ensures (omega arith) (omega arith);
+  sound = fitting c.args.sheet.now c.args.at (omega arith) (omega arith) c.in-Some.kind c.in-Some.ensures.kind c.if-not-may_stand.ensures (omega arith) (omega arith);
   tag = c.in-Some.ensures.marked;
   size = c.two-n.ensures;
   inside = omega arith;

@@ -39,6 +39,6 @@ pub returns : goal.returns
 returns c =
     let sheet = c.args.sheet.now in
     let at = c.loop-step.fields.at in
-    let step = subst (λ x. Next x at None c.next.new.self.at) c.loop-step.invariant.0 c.in-default.ensures.step in
+    let step = subst (λ x. Next x at None c.next.new.self.at) c.loop-step.invariant.0 c.in_default.ensures.step in
     let h = whole sheet c.loop-step.n at c.loop-step.invariant.2 c.loop-step.invariant.1 step.0 in
     record { tiled = h.0; covers = h.1; one = one_tiling sheet }

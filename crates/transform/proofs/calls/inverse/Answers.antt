@@ -7,28 +7,28 @@ use Rattle.transform.proofs.Plains.{elements_of}
 use Rattle.transform.proofs.Written.{inverted_by}
 use Rattle.transform.proofs.calls.inverse.Goals as goal
 
-pub inverse-layers-requires : goal.inverse-layers-requires
-inverse-layers-requires c =
+pub inverse_layers-requires : goal.inverse_layers-requires
+inverse_layers-requires c =
     let f = c.args.f.now in
     let out = c.args.out.now in
-    let ok = passes (transform_checks f out) c.in-ok-may-transform.ensures in
+    let ok = passes (transform_checks f out) c.in_ok-may_transform.ensures in
     let room : length out ≡ 256 = eqb-true (length out) 256 ok.1.0 in
-    let m = c.ml-kem-ring.result.modulus in
+    let m = c.ml_kem_ring.result.modulus in
     record {
-      size = omega (arith, c.copy-from-slice.ensures.len);
-      all = subst (Elements (λ (x : ℕ). ltb x m)) (sym c.copy-from-slice.ensures.after) (elements_of m f c.ml-kem-ring.ensures ok.1.1.0);
+      size = omega (arith, c.copy_from_slice.ensures.len);
+      all = subst (Elements (λ (x : ℕ). ltb x m)) (sym c.copy_from_slice.ensures.after) (elements_of m f c.ml_kem_ring.ensures ok.1.1.0);
     }
 
 pub returns : goal.returns
 returns c =
     let f = c.args.f.now in
     let out = c.args.out.now in
-    let ok = passes (transform_checks f out) c.in-ok-may-transform.ensures in
+    let ok = passes (transform_checks f out) c.in_ok-may_transform.ensures in
     let size : length f ≡ 256 = eqb-true (length f) 256 ok.0 in
     let room : length out ≡ 256 = eqb-true (length out) 256 ok.1.0 in
     record {
-      answers = c.in-ok-may-transform.ensures;
+      answers = c.in_ok-may_transform.ensures;
       writes =
-          inverted_by c.ml-kem-ring.result.modulus c.ml-kem-ring.ensures f c.copy-from-slice.new.self c.inverse_layers.new.words
-          c.copy-from-slice.ensures.after size ok.1.1.0 (omega arith) c.inverse_layers.ensures.all c.inverse_layers.ensures.transformed;
+          inverted_by c.ml_kem_ring.result.modulus c.ml_kem_ring.ensures f c.copy_from_slice.new.self c.inverse_layers.new.words
+          c.copy_from_slice.ensures.after size ok.1.1.0 (omega arith) c.inverse_layers.ensures.all c.inverse_layers.ensures.transformed;
     }

@@ -25,5 +25,5 @@ loop-g-preserved g c =
     let law = g.met.G.GuardedRing.lawful s in
     halved_more (g.G.GuardedRing.check s) (g.G.Ring.root s) c.args.count c.loop-g.g (c.loop-g.g - 1) c.args.modulus.now.p c.args.numbers.now c.loop-g.numbers
     c.loop-g.invariant (omega arith) (omega arith) (omega (arith, law.above)) c.requires.modulus
-    c.reversed.result c.root-power.result c.product-turned.result c.sum.result c.difference.result
-    c.reversed.ensures c.root-power.ensures c.product-turned.ensures c.sum.ensures c.difference.ensures
+    c.reversed.result c.root_power.result c.product-turned.result c.sum.result c.difference.result
+    c.reversed.ensures c.root_power.ensures c.product-turned.ensures c.sum.ensures c.difference.ensures

@@ -10,7 +10,7 @@ pub sum-x-requires : goal.sum-x-requires
 sum-x-requires g c =
     let s = c.args.ring.now in
     let law = g.met.G.GuardedRing.lawful s in
-    let modulus : c.of-modulus.result.p ≡ g.G.GuardedRing.check s = c.of-modulus.ensures ∙ c.check-modulus-p.ensures in (
+    let modulus : c.of-modulus.result.p ≡ g.G.GuardedRing.check s = c.of-modulus.ensures ∙ c.check_modulus-p.ensures in (
       omega (arith, below _ _ _ (omega (arith, law.above)) c.loop-k.invariant.0, modulus),
       below _ _ _ (omega (arith, c.of-modulus.result.some)) c.reduced-step.ensures,
     )
@@ -20,7 +20,7 @@ loop-k-init g c =
     let s = c.args.ring.now in
     let p = g.G.GuardedRing.check s in
     let law = g.met.G.GuardedRing.lawful s in (
-      rw (c.reduced-x.ensures, c.of-modulus.ensures, c.check-modulus-p.ensures) (value_first p c.args.a c.args.b (omega (arith, law.above))),
+      rw (c.reduced-x.ensures, c.of-modulus.ensures, c.check_modulus-p.ensures) (value_first p c.args.a c.args.b (omega (arith, law.above))),
       λ j h. absurd (omega arith),
     )
 
@@ -29,7 +29,7 @@ loop-k-preserved g c =
     let s = c.args.ring.now in
     let p = g.G.GuardedRing.check s in
     let law = g.met.G.GuardedRing.lawful s in
-    let modulus : c.of-modulus.result.p ≡ g.G.GuardedRing.check s = c.of-modulus.ensures ∙ c.check-modulus-p.ensures in
+    let modulus : c.of-modulus.result.p ≡ g.G.GuardedRing.check s = c.of-modulus.ensures ∙ c.check_modulus-p.ensures in
     let k = c.loop-k.k in
     let x = c.loop-k.x in (
       rw (c.sum-x.ensures, modulus)

@@ -3,8 +3,8 @@ use native.Mathlib.Nat.{div-lt_self}
 use Rattle.guarded.specs.ModuliLemmas.{known_above, known_fits, known_most}
 use Rattle.guarded.proofs.redundant.arithmetic.made.Goals as goal
 
-pub overflow-cast-reciprocal-2 : goal.overflow-cast-reciprocal-2
-overflow-cast-reciprocal-2 c =
+pub overflow_cast-reciprocal-2 : goal.overflow_cast-reciprocal-2
+overflow_cast-reciprocal-2 c =
     let above : 3329 < c.args.p = known_above c.args.p c.requires.known in
     let more : 1 < 3329 * c.args.p * c.args.t = omega (arith, mul-le-mul_left {m = 1} {n = c.args.t} (3329 * c.args.p) c.requires.some) in
     record { fits = div-lt_self (lit< tt) more }

@@ -6,16 +6,16 @@ use Rattle.records.specs.Tables.{with_form}
 use Rattle.records.proofs.Changes.{layered, layer_kept}
 use Rattle.records.proofs.table.Table.advance.Goals as goal
 
-pub invariant-of-self : goal.invariant-of-self
-invariant-of-self c =
+pub invariant_of-self : goal.invariant_of-self
+invariant_of-self c =
     let s = c.args.self.now in
     let k =
     layer_kept s.records c.args.r (with_form c.args.next (rows s.records c.args.r)) (length c.args.masks.now) (omega arith)
     s.proper c.requires.alone c.requires.fine c.requires.suited in
-    let room : length (put_mid 0 (length c.args.masks.now - 0) s.store c.copy-from-slice.new.self) ≡ 128 = simp (length-append, length-drop) (omega arith) in
+    let room : length (put_mid 0 (length c.args.masks.now - 0) s.store c.copy_from_slice.new.self) ≡ 128 = simp (length-append, length-drop) (omega arith) in
     (k.proper, (k.single, (k.listed, (c.requires.few, (length-set s.records c.args.r _ ∙ s.eight, (room, tt))))))
 
 pub returns : goal.returns
 returns c =
     layered c.args.self.now.records c.args.r c.args.next _ c.args.masks.now (omega arith)
-    (take_at c.copy-from-slice.new.self _ _ (omega arith) ∙ c.copy-from-slice.ensures.after)
+    (take_at c.copy_from_slice.new.self _ _ (omega arith) ∙ c.copy_from_slice.ensures.after)

@@ -3,8 +3,8 @@ use Rattle.std.proofs.lemmas.List.{length-set}
 use Rattle.records.proofs.Changes.{idle_kept}
 use Rattle.records.proofs.table.Table.clear.Goals as goal
 
-pub invariant-of-self : goal.invariant-of-self
-invariant-of-self c =
+pub invariant_of-self : goal.invariant_of-self
+invariant_of-self c =
     let s = c.args.self.now in
     let k = idle_kept s.records c.args.r _ s.count (omega arith) (record { proper = s.proper; single = s.single; listed = s.listed }) refl in
     (k.proper, (k.single, (k.listed, (s.short, (length-set s.records c.args.r _ ∙ s.eight, (s.room, tt))))))

@@ -7,8 +7,8 @@ use Rattle.records.proofs.Changes.{changed, idle_kept, whole_idle}
 use Rattle.records.proofs.table.Table.join.Goals as goal
 
 -- the result has the form of its first operand
-pub invariant-of-self : goal.invariant-of-self
-invariant-of-self c =
+pub invariant_of-self : goal.invariant_of-self
+invariant_of-self c =
     let s = c.args.self.now in
     let k =
     idle_kept s.records c.args.d c.result.result s.count (omega arith)

@@ -4,10 +4,10 @@ use Rattle.workspace.proofs.Asked.{or_none}
 use Rattle.workspace.proofs.Served.{refuses_at, clears}
 use Rattle.workspace.proofs.workspace.Workspace.clear.Goals as goal
 
-pub returns-in-err-check-clear : goal.returns-in-err-check-clear
-returns-in-err-check-clear g c =
+pub returns-in_err-check_clear : goal.returns-in_err-check_clear
+returns-in_err-check_clear g c =
     let p = err_from_is_err_and c.from-residual.result c.from-residual.ensures.1 in
-    record { keeps = refl; serves = rw (p.1, p.2) (refuses_at _ _ _ _ _ (or_none _ _ c.in-err-check-clear.ensures)) }
+    record { keeps = refl; serves = rw (p.1, p.2) (refuses_at _ _ _ _ _ (or_none _ _ c.in_err-check_clear.ensures)) }
 
 pub returns : goal.returns
-returns g c = record { keeps = refl; serves = clears _ _ _ _ _ _ (or_none _ _ c.in-ok-check-clear.ensures) c.clear.ensures refl }
+returns g c = record { keeps = refl; serves = clears _ _ _ _ _ _ (or_none _ _ c.in_ok-check_clear.ensures) c.clear.ensures refl }

@@ -7,20 +7,20 @@ use Rattle.workspace.proofs.Asked.{ruled, sound, lent_all, join_known, join_whol
 use Rattle.workspace.proofs.Served.{refuses_at, joins_on}
 use Rattle.workspace.proofs.workspace.Workspace.join.Goals as goal
 
-pub returns-in-err-may-join : goal.returns-in-err-may-join
-returns-in-err-may-join g c =
+pub returns-in_err-may_join : goal.returns-in_err-may_join
+returns-in_err-may_join g c =
     let p = err_from_is_err_and c.from-residual.result c.from-residual.ensures.1 in
-    record { keeps = refl; serves = rw (p.1, p.2) (refuses_at _ _ _ _ _ c.in-err-may-join.ensures) }
+    record { keeps = refl; serves = rw (p.1, p.2) (refuses_at _ _ _ _ _ c.in_err-may_join.ensures) }
 
-pub join-registers-requires : goal.join-registers-requires
-join-registers-requires g c =
+pub join_registers-requires : goal.join_registers-requires
+join_registers-requires g c =
     let r = g.G.Ring in
     let h = g.G.GuardedRing in
     let ring = c.args.self.now.ring in
     let model = guarded h.check h.redundancy r.root r.element r.meaning h.number ring in
     let s = state c.args.self.now.table in
     let call = join c.args.operation c.args.d c.args.a c.args.b in
-    let ok = c.in-ok-may-join.ensures in
+    let ok = c.in_ok-may_join.ensures in
     let q = ruled model s _ (part c.args.words.now) call ok in
     let words = sound model s _ (part c.args.words.now) call ok in
     record {
@@ -38,10 +38,10 @@ join-requires g c =
     let model = guarded h.check h.redundancy r.root r.element r.meaning h.number ring in
     let s = state c.args.self.now.table in
     let call = join c.args.operation c.args.d c.args.a c.args.b in
-    let q = ruled model s _ (part c.args.words.now) call c.in-ok-may-join.ensures in
+    let q = ruled model s _ (part c.args.words.now) call c.in_ok-may_join.ensures in
     let law = g.met.G.GuardedRing.lawful ring in
     record {
-      modulus = omega (arith, law.above, c.check-modulus-p.ensures);
+      modulus = omega (arith, law.above, c.check_modulus-p.ensures);
       known = join_known model.p model.t s.registers _ c.args.operation c.args.d c.args.a c.args.b q;
       entire = join_whole model.p model.t s.registers _ c.args.operation c.args.d c.args.a c.args.b q;
     }
@@ -50,6 +50,6 @@ pub returns : goal.returns
 returns g c = record {
   keeps = refl;
   serves =
-      joins_on _ _ _ _ _ _ _ _ _ _ c.in-ok-may-join.ensures c.check-modulus-p.ensures c.join.ensures c.join-registers.ensures.only
-      c.join-registers.ensures.means;
+      joins_on _ _ _ _ _ _ _ _ _ _ c.in_ok-may_join.ensures c.check_modulus-p.ensures c.join.ensures c.join_registers.ensures.only
+      c.join_registers.ensures.means;
 }

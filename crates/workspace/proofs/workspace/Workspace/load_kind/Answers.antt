@@ -11,26 +11,26 @@ use Rattle.workspace.proofs.Asked.{ruled, lent_all, load_sizes, load_known, load
 use Rattle.workspace.proofs.Served.{refuses_at, loads}
 use Rattle.workspace.proofs.workspace.Workspace.load_kind.Goals as goal
 
-pub returns-in-err-may-load : goal.returns-in-err-may-load
-returns-in-err-may-load g c =
+pub returns-in_err-may_load : goal.returns-in_err-may_load
+returns-in_err-may_load g c =
     let p = err_from_is_err_and c.from-residual.result c.from-residual.ensures.1 in
-    record { keeps = refl; serves = rw (p.1, p.2) (refuses_at _ _ _ _ _ c.in-err-may-load.ensures) }
+    record { keeps = refl; serves = rw (p.1, p.2) (refuses_at _ _ _ _ _ c.in_err-may_load.ensures) }
 
-pub load-register-requires : goal.load-register-requires
-load-register-requires g c =
+pub load_register-requires : goal.load_register-requires
+load_register-requires g c =
     let r = g.G.Ring in
     let h = g.G.GuardedRing in
     let ring = c.args.self.now.ring in
     let model = guarded h.check h.redundancy r.root r.element r.meaning h.number ring in
     let s = state c.args.self.now.table in
     let call = load Polynomial c.args.r c.args.xs.now c.args.c c.args.bytes.now in
-    let q = ruled model s _ (part c.args.words.now) call c.in-ok-may-load.ensures in
+    let q = ruled model s _ (part c.args.words.now) call c.in_ok-may_load.ensures in
     let sizes = load_sizes model.p model.t s.registers _ Polynomial c.args.r c.args.xs.now c.args.c c.args.bytes.now q in
     record {
       room = (lent_all model.p model.t s.registers _ call q, load_known model.p model.t s.registers _ Polynomial c.args.r c.args.xs.now c.args.c c.args.bytes.now q);
       sizes = (sizes.0, (omega arith, sizes.1));
       range = load_range model.p model.t s.registers _ Polynomial c.args.r c.args.xs.now c.args.c c.args.bytes.now q;
-      checks = due_low model (g.met.G.GuardedRing.lawful ring) _ _ _ _ c.residues-due.ensures;
+      checks = due_low model (g.met.G.GuardedRing.lawful ring) _ _ _ _ c.residues_due.ensures;
       digits = load_digits model.p model.t s.registers _ Polynomial c.args.r c.args.xs.now c.args.c c.args.bytes.now q;
     }
 
@@ -43,7 +43,7 @@ returns g c =
     record {
       keeps = refl;
       serves =
-          loads model _ _ _ _ c.args.kind _ _ _ _ _ c.in-ok-may-load.ensures c.load.ensures c.load-register.ensures.only
-          (c.residues-due.ensures ∙ ap (λ (F : Form). in_form (checks model) F (witness (checks model) c.args.c 0)) c.loaded-form.ensures)
-          c.load-register.ensures.holds;
+          loads model _ _ _ _ c.args.kind _ _ _ _ _ c.in_ok-may_load.ensures c.load.ensures c.load_register.ensures.only
+          (c.residues_due.ensures ∙ ap (λ (F : Form). in_form (checks model) F (witness (checks model) c.args.c 0)) c.loaded_form.ensures)
+          c.load_register.ensures.holds;
     }

@@ -5,11 +5,11 @@ use Rattle.workspace.proofs.Asked.{or_some}
 use Rattle.workspace.proofs.Served.{refuses_at, releases, judged}
 use Rattle.workspace.proofs.workspace.Workspace.release.Goals as goal
 
-pub returns-in-err-check-release : goal.returns-in-err-check-release
-returns-in-err-check-release g c =
+pub returns-in_err-check_release : goal.returns-in_err-check_release
+returns-in_err-check_release g c =
     let law = g.met.G.GuardedRing.lawful c.args.self.now.ring in
     let p = err_from_is_err_and c.from-residual.result c.from-residual.ensures.1 in
-    let served = refuses_at _ _ _ _ _ (or_some _ _ _ c.in-err-check-release.ensures) in
+    let served = refuses_at _ _ _ _ _ (or_some _ _ _ c.in_err-check_release.ensures) in
     record {
       serves = rw (p.1, p.2) served;
       keeps = rw p.1 refl;
@@ -17,11 +17,11 @@ returns-in-err-check-release g c =
       judged = rw (p.1, p.2) (judged _ _ _ law _ _ served);
     }
 
-pub returns-in-err-form : goal.returns-in-err-form
-returns-in-err-form g c =
+pub returns-in_err-form : goal.returns-in_err-form
+returns-in_err-form g c =
     let law = g.met.G.GuardedRing.lawful c.args.self.now.ring in
-    let p = err_from_is_err_and c.from-residual-in-err-form.result c.from-residual-in-err-form.ensures.1 in
-    let served = refuses_at _ _ _ _ _ c.in-err-form.ensures.says in
+    let p = err_from_is_err_and c.from-residual-in_err-form.result c.from-residual-in_err-form.ensures.1 in
+    let served = refuses_at _ _ _ _ _ c.in_err-form.ensures.says in
     record {
       serves = rw (p.1, p.2) served;
       keeps = rw p.1 refl;
@@ -32,7 +32,7 @@ returns-in-err-form g c =
 pub returns : goal.returns
 returns g c =
     let law = g.met.G.GuardedRing.lawful c.args.self.now.ring in
-    let served = releases _ _ _ _ _ _ _ _ c.in-ok-form.ensures.says c.in-ok-form.ensures.form c.hand-out.ensures in
+    let served = releases _ _ _ _ _ _ _ _ c.in_ok-form.ensures.says c.in_ok-form.ensures.form c.hand_out.ensures in
     record {
       serves = served;
       keeps = tt;

@@ -5,14 +5,14 @@ use Rattle.algebra.proofs.Remainders.{joined_below, joined_plain, joined_guard, 
 use Rattle.guarded.specs.ModuliLemmas.{known_above}
 use Rattle.guarded.proofs.redundant.arithmetic.RedundantGuardedRing.lift.Goals as goal
 
-pub overflow-add-result-2 : goal.overflow-add-result-2
-overflow-add-result-2 c =
+pub overflow_add-result-2 : goal.overflow_add-result-2
+overflow_add-result-2 c =
     let s = c.args.self.now in
     let above : 3329 < s.p = known_above s.p s.known in
     let x : ℕ = joined 3329 s.p s.inverse c.args.s c.args.c in
     let low : x < 3329 * s.p = joined_below 3329 s.p s.inverse c.args.s c.args.c c.requires.coefficient (omega arith) in
-    let is : (c.args.s + 3329 * c.reduce-wide-part.result) + s.n * c.args.k ≡ x + 3329 * s.p * c.args.k =
-    ap (λ (y : ℕ). (c.args.s + 3329 * y) + s.n * c.args.k) c.reduce-wide-part.ensures ∙ ap (λ (y : ℕ). x + y * c.args.k) s.joint in
+    let is : (c.args.s + 3329 * c.reduce_wide-part.result) + s.n * c.args.k ≡ x + 3329 * s.p * c.args.k =
+    ap (λ (y : ℕ). (c.args.s + 3329 * y) + s.n * c.args.k) c.reduce_wide-part.ensures ∙ ap (λ (y : ℕ). x + y * c.args.k) s.joint in
     omega (arith, word_below (3329 * s.p) s.t x c.args.k low c.requires.number, s.fits)
 
 pub returns : goal.returns
@@ -21,9 +21,9 @@ returns c =
     let above : 3329 < s.p = known_above s.p s.known in
     let x : ℕ = joined 3329 s.p s.inverse c.args.s c.args.c in
     let low : x < 3329 * s.p = joined_below 3329 s.p s.inverse c.args.s c.args.c c.requires.coefficient (omega arith) in
-    let is : (c.args.s + 3329 * c.reduce-wide-part.result) + s.n * c.args.k ≡ x + 3329 * s.p * c.args.k =
-    ap (λ (y : ℕ). (c.args.s + 3329 * y) + s.n * c.args.k) c.reduce-wide-part.ensures ∙ ap (λ (y : ℕ). x + y * c.args.k) s.joint in
-    let means : ((c.args.s + 3329 * c.reduce-wide-part.result) + s.n * c.args.k) % (3329 * s.p) ≡ x =
+    let is : (c.args.s + 3329 * c.reduce_wide-part.result) + s.n * c.args.k ≡ x + 3329 * s.p * c.args.k =
+    ap (λ (y : ℕ). (c.args.s + 3329 * y) + s.n * c.args.k) c.reduce_wide-part.ensures ∙ ap (λ (y : ℕ). x + y * c.args.k) s.joint in
+    let means : ((c.args.s + 3329 * c.reduce_wide-part.result) + s.n * c.args.k) % (3329 * s.p) ≡ x =
     ap (λ (y : ℕ). y % (3329 * s.p)) is ∙ word_mod (3329 * s.p) s.t x c.args.k low in
     record {
       element = lt-ltb _ _ (rw is (word_below (3329 * s.p) s.t x c.args.k low c.requires.number));
