@@ -18,8 +18,8 @@ pub(crate) fn forward_butterfly<R: Ring>(
     e3: u8,
 )
     requires inside { (i < j) × (j < length words.old) }
-    requires all { Elements (element ring.now) words.old }
-    ensures { PairWritten (element ring.now) (meaning ring.now) i j (MaskedForward 7 (pred (modulus ring.now)) (root ring.now) z e1 e2 e3) words.old words.new }
+    requires all { Elements (R.element ring.now) words.old }
+    ensures { PairWritten (R.element ring.now) (R.meaning ring.now) i j (MaskedForward 7 (pred (R.modulus ring.now)) (R.root ring.now) z e1 e2 e3) words.old words.new }
 {
     let u = ring.power(e3.wrapping_sub(e1));
     let v = ring.power(z.wrapping_add(e3).wrapping_sub(e2));
@@ -41,8 +41,8 @@ pub(crate) fn inverse_butterfly<R: Ring>(
     o2: u8,
 )
     requires inside { (i < j) × (j < length words.old) }
-    requires all { Elements (element ring.now) words.old }
-    ensures { PairWritten (element ring.now) (meaning ring.now) i j (MaskedInverse 7 (pred (modulus ring.now)) (root ring.now) 1 z e o1 o2) words.old words.new }
+    requires all { Elements (R.element ring.now) words.old }
+    ensures { PairWritten (R.element ring.now) (R.meaning ring.now) i j (MaskedInverse 7 (pred (R.modulus ring.now)) (R.root ring.now) 1 z e o1 o2) words.old words.new }
 {
     let a = words[i];
     let b = words[j];
@@ -66,8 +66,8 @@ pub(crate) fn forward_group<R: Ring>(
 )
     requires size { length words.old ≡ 256 }
     requires inside { group * (2 * len) + 2 * len ≤ 256 }
-    requires all { Elements (element ring.now) words.old }
-    ensures { GroupWritten (element ring.now) (meaning ring.now) (group * (2 * len)) len len (forward_pair (pred (modulus ring.now)) (root ring.now) z len group before.now.bytes.now list.now.bytes.now) words.old words.new }
+    requires all { Elements (R.element ring.now) words.old }
+    ensures { GroupWritten (R.element ring.now) (R.meaning ring.now) (group * (2 * len)) len len (forward_pair (pred (R.modulus ring.now)) (R.root ring.now) z len group before.now.bytes.now list.now.bytes.now) words.old words.new }
 {
     let base = group * (2 * len);
     let own = len * group;
@@ -101,8 +101,8 @@ pub(crate) fn inverse_group<R: Ring>(
 )
     requires size { length words.old ≡ 256 }
     requires inside { group * (2 * len) + 2 * len ≤ 256 }
-    requires all { Elements (element ring.now) words.old }
-    ensures { GroupWritten (element ring.now) (meaning ring.now) (group * (2 * len)) len len (inverse_pair (pred (modulus ring.now)) (root ring.now) z len group before.now.bytes.now list.now.bytes.now) words.old words.new }
+    requires all { Elements (R.element ring.now) words.old }
+    ensures { GroupWritten (R.element ring.now) (R.meaning ring.now) (group * (2 * len)) len len (inverse_pair (pred (R.modulus ring.now)) (R.root ring.now) z len group before.now.bytes.now list.now.bytes.now) words.old words.new }
 {
     let base = group * (2 * len);
     let own = len * group;

@@ -21,9 +21,9 @@ pub fn forward_layer<R: Ring>(
     requires number { (1 ≤ layer) × (layer ≤ 7) }
     requires size { length words.old ≡ 256 }
     requires lists { (suits 7 (layer - 1) before.now ≡ true) × (suits 7 layer list.now ≡ true) }
-    requires all { Elements (element ring.now) words.old }
-    ensures all { Elements (element ring.now) words.new }
-    ensures went { WentForward (pred (modulus ring.now)) (root ring.now) layer before.now list.now (held (meaning ring.now) words.old) (held (meaning ring.now) words.new) }
+    requires all { Elements (R.element ring.now) words.old }
+    ensures all { Elements (R.element ring.now) words.new }
+    ensures went { WentForward (pred (R.modulus ring.now)) (R.root ring.now) layer before.now list.now (held (R.meaning ring.now) words.old) (held (R.meaning ring.now) words.new) }
 {
     let came = Masks::new(before);
     let goes = Masks::new(list);
@@ -46,9 +46,9 @@ fn inverse_butterflies<R: Ring>(
     requires number { (1 ≤ layer) × (layer ≤ 7) }
     requires size { length words.old ≡ 256 }
     requires lists { (suits 7 (layer - 1) before.now ≡ true) × (suits 7 layer list.now ≡ true) }
-    requires all { Elements (element ring.now) words.old }
-    ensures all { Elements (element ring.now) words.new }
-    ensures went { InverseLayer 7 (pred (modulus ring.now)) (root ring.now) 1 layer (mask_after 7 Inverse (layer - 1) before.now) (mask_after 7 Inverse layer list.now) (held (meaning ring.now) words.old) (held (meaning ring.now) words.new) }
+    requires all { Elements (R.element ring.now) words.old }
+    ensures all { Elements (R.element ring.now) words.new }
+    ensures went { InverseLayer 7 (pred (R.modulus ring.now)) (R.root ring.now) 1 layer (mask_after 7 Inverse (layer - 1) before.now) (mask_after 7 Inverse layer list.now) (held (R.meaning ring.now) words.old) (held (R.meaning ring.now) words.new) }
 {
     let came = Masks::new(before);
     let goes = Masks::new(list);
@@ -63,9 +63,9 @@ fn inverse_butterflies<R: Ring>(
 /// Divides every word by 128.
 pub(crate) fn scale<R: Ring>(ring: &R, words: &mut [R::Word])
     requires size { length words.old ≡ 256 }
-    requires all { Elements (element ring.now) words.old }
-    ensures all { Elements (element ring.now) words.new }
-    ensures scaled { (i : ℕ) → InverseOf128 (pred (modulus ring.now)) i → (j : ℕ) → j < 256 → Same (pred (modulus ring.now)) (held (meaning ring.now) words.new j) (i * held (meaning ring.now) words.old j) }
+    requires all { Elements (R.element ring.now) words.old }
+    ensures all { Elements (R.element ring.now) words.new }
+    ensures scaled { (i : ℕ) → InverseOf128 (pred (R.modulus ring.now)) i → (j : ℕ) → j < 256 → Same (pred (R.modulus ring.now)) (held (R.meaning ring.now) words.new j) (i * held (R.meaning ring.now) words.old j) }
 {
     let inverse = ring.inverse();
     for k in 0..256 {
@@ -84,9 +84,9 @@ pub fn inverse_layer<R: Ring>(
     requires number { (1 ≤ layer) × (layer ≤ 7) }
     requires size { length words.old ≡ 256 }
     requires lists { (suits 7 (layer - 1) before.now ≡ true) × (suits 7 layer list.now ≡ true) }
-    requires all { Elements (element ring.now) words.old }
-    ensures all { Elements (element ring.now) words.new }
-    ensures went { (i : ℕ) → InverseOf128 (pred (modulus ring.now)) i → WentBack (pred (modulus ring.now)) (root ring.now) i layer before.now list.now (held (meaning ring.now) words.old) (held (meaning ring.now) words.new) }
+    requires all { Elements (R.element ring.now) words.old }
+    ensures all { Elements (R.element ring.now) words.new }
+    ensures went { (i : ℕ) → InverseOf128 (pred (R.modulus ring.now)) i → WentBack (pred (R.modulus ring.now)) (R.root ring.now) i layer before.now list.now (held (R.meaning ring.now) words.old) (held (R.meaning ring.now) words.new) }
 {
     inverse_butterflies(ring, words, layer, before, list);
     if layer == 7 {

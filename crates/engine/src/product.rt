@@ -15,12 +15,12 @@ pub fn slot_product<R: Ring>(
     b1: R::Word,
     c: R::Word,
 ) -> (R::Word, R::Word)
-    requires left { (element ring.now a0 ≡ true) × (element ring.now a1 ≡ true) }
-    requires right { (element ring.now b0 ≡ true) × (element ring.now b1 ≡ true) }
-    requires factor { element ring.now c ≡ true }
-    ensures first { element ring.now result.0 ≡ true }
-    ensures second { element ring.now result.1 ≡ true }
-    ensures product { SlotProduct (pred (modulus ring.now)) (meaning ring.now c) (meaning ring.now a0) (meaning ring.now a1) (meaning ring.now b0) (meaning ring.now b1) (meaning ring.now result.0) (meaning ring.now result.1) }
+    requires left { (R.element ring.now a0 ≡ true) × (R.element ring.now a1 ≡ true) }
+    requires right { (R.element ring.now b0 ≡ true) × (R.element ring.now b1 ≡ true) }
+    requires factor { R.element ring.now c ≡ true }
+    ensures first { R.element ring.now result.0 ≡ true }
+    ensures second { R.element ring.now result.1 ≡ true }
+    ensures product { SlotProduct (pred (R.modulus ring.now)) (R.meaning ring.now c) (R.meaning ring.now a0) (R.meaning ring.now a1) (R.meaning ring.now b0) (R.meaning ring.now b1) (R.meaning ring.now result.0) (R.meaning ring.now result.1) }
 {
     let first = ring.product(a0, b0);
     let round = ring.product(ring.product(a1, b1), c);
@@ -32,10 +32,10 @@ pub fn slot_product<R: Ring>(
 /// The products of the 128 slots of two transforms.
 pub fn base_products<R: Ring>(ring: &R, left: &[R::Word], right: &[R::Word], out: &mut [R::Word])
     requires sizes { (length left.now ≡ 256) × ((length right.now ≡ 256) × (length out.old ≡ 256)) }
-    requires left { Elements (element ring.now) left.now }
-    requires right { Elements (element ring.now) right.now }
-    ensures all { Elements (element ring.now) out.new }
-    ensures products { BaseProducts 7 (pred (modulus ring.now)) (root ring.now) (held (meaning ring.now) left.now) (held (meaning ring.now) right.now) (held (meaning ring.now) out.new) }
+    requires left { Elements (R.element ring.now) left.now }
+    requires right { Elements (R.element ring.now) right.now }
+    ensures all { Elements (R.element ring.now) out.new }
+    ensures products { BaseProducts 7 (pred (R.modulus ring.now)) (R.root ring.now) (held (R.meaning ring.now) left.now) (held (R.meaning ring.now) right.now) (held (R.meaning ring.now) out.new) }
 {
     for slot in 0..128 {
         let i = 2 * slot;

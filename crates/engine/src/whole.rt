@@ -22,9 +22,9 @@ fn no_masks(layers: u8) -> &'static [u8]
 /// The transform: all seven layers, with no mask.
 pub fn forward_layers<R: Ring>(ring: &R, words: &mut [R::Word])
     requires size { length words.old ≡ 256 }
-    requires all { Elements (element ring.now) words.old }
-    ensures all { Elements (element ring.now) words.new }
-    ensures transformed { Agrees (pred (modulus ring.now)) (held (meaning ring.now) words.new) (ntt 7 (pred (modulus ring.now)) (root ring.now) (held (meaning ring.now) words.old)) }
+    requires all { Elements (R.element ring.now) words.old }
+    ensures all { Elements (R.element ring.now) words.new }
+    ensures transformed { Agrees (pred (R.modulus ring.now)) (held (R.meaning ring.now) words.new) (ntt 7 (pred (R.modulus ring.now)) (R.root ring.now) (held (R.meaning ring.now) words.old)) }
 {
     for layer in 1..8u8 {
         forward_layer(ring, words, layer, no_masks(layer - 1), no_masks(layer));
@@ -34,9 +34,9 @@ pub fn forward_layers<R: Ring>(ring: &R, words: &mut [R::Word])
 /// The inverse transform: all seven layers back, with no mask.
 pub fn inverse_layers<R: Ring>(ring: &R, words: &mut [R::Word])
     requires size { length words.old ≡ 256 }
-    requires all { Elements (element ring.now) words.old }
-    ensures all { Elements (element ring.now) words.new }
-    ensures transformed { (i : ℕ) → InverseOf128 (pred (modulus ring.now)) i → Agrees (pred (modulus ring.now)) (held (meaning ring.now) words.new) (inv_ntt 7 (pred (modulus ring.now)) (root ring.now) i (held (meaning ring.now) words.old)) }
+    requires all { Elements (R.element ring.now) words.old }
+    ensures all { Elements (R.element ring.now) words.new }
+    ensures transformed { (i : ℕ) → InverseOf128 (pred (R.modulus ring.now)) i → Agrees (pred (R.modulus ring.now)) (held (R.meaning ring.now) words.new) (inv_ntt 7 (pred (R.modulus ring.now)) (R.root ring.now) i (held (R.meaning ring.now) words.old)) }
 {
     for layer in 1..8u8 {
         inverse_layer(ring, words, layer, no_masks(layer - 1), no_masks(layer));

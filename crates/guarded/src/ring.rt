@@ -24,22 +24,22 @@ pub trait GuardedRing: Ring {
         requires coefficient { s < 3329 }
         requires check { c < check self.now }
         requires number { k < redundancy self.now }
-        ensures { Lifted (guarded check redundancy Self.Ring.root Self.Ring.element Self.Ring.meaning number self.now) s c k result };
+        ensures { Lifted (guarded check redundancy Self.root Self.element Self.meaning number self.now) s c k result };
 
     /// The remainders of an element's meaning by 3329 and by p.
     fn split(&self, w: Self::Word) -> (u16, u32)
-        requires { Self.Ring.element self.now w ≡ true }
-        ensures coefficient { result.0 ≡ Self.Ring.meaning self.now w % 3329 }
-        ensures check { result.1 ≡ Self.Ring.meaning self.now w % check self.now };
+        requires { Self.element self.now w ≡ true }
+        ensures coefficient { result.0 ≡ Self.meaning self.now w % 3329 }
+        ensures check { result.1 ≡ Self.meaning self.now w % check self.now };
 
-    ghost joint: { (s : Self) → Self.Ring.modulus s ≡ 3329 * check s };
+    ghost joint: { (s : Self) → Self.modulus s ≡ 3329 * check s };
 
-    ghost lawful: { (s : Self) → Lawful (guarded check redundancy Self.Ring.root Self.Ring.element Self.Ring.meaning number s) };
+    ghost lawful: { (s : Self) → Lawful (guarded check redundancy Self.root Self.element Self.meaning number s) };
 }
 
 /// For every guarded ring: lift and split undo each other.
 pub fn round_trips_stand<G: GuardedRing>() -> u8
-    ensures { (s : G) → RoundTrips (guarded check redundancy G.Ring.root G.Ring.element G.Ring.meaning number s) }
+    ensures { (s : G) → RoundTrips (guarded G.check G.redundancy G.root G.element G.meaning G.number s) }
 {
     0
 }

@@ -12,7 +12,7 @@ use rings::{Refusal, Ring};
 /// Tests that every word of register r is an element.
 pub fn test_register<G: GuardedRing>(ring: &G, words: &[G::Word], r: u8) -> Result<(), Refusal>
     requires { (length words.now ≡ 2048) × (r < 8) }
-    ensures { complaint result ≡ first (elements (model check redundancy G.Ring.root G.Ring.element G.Ring.meaning number ring.now) (part words.now) r ∷ []) }
+    ensures { complaint result ≡ first (elements (model G.check G.redundancy G.root G.element G.meaning G.number ring.now) (part words.now) r ∷ []) }
 {
     let base = 256 * r as usize;
     for k in 0..256 {
@@ -31,8 +31,8 @@ pub fn residues_agree<G: GuardedRing>(
     numbers: &[u32],
 ) -> Result<(), Refusal>
     requires size { (length words.now ≡ 2048) × ((r < 8) × (length numbers.now ≡ 256)) }
-    requires tested { flaw (G.Ring.element ring.now) (part words.now r) ≡ none }
-    ensures { complaint result ≡ first (scan (differ (residues (model check redundancy G.Ring.root G.Ring.element G.Ring.meaning number ring.now) (part words.now r)) numbers.now) Fault ∷ []) }
+    requires tested { flaw (G.element ring.now) (part words.now r) ≡ none }
+    ensures { complaint result ≡ first (scan (differ (residues (model G.check G.redundancy G.root G.element G.meaning G.number ring.now) (part words.now r)) numbers.now) Fault ∷ []) }
 {
     let base = 256 * r as usize;
     for k in 0..256 {
@@ -47,8 +47,8 @@ pub fn residues_agree<G: GuardedRing>(
 /// Writes the remainders of register r by 3329 into out.
 pub fn hand_out<G: GuardedRing>(ring: &G, words: &[G::Word], r: u8, out: &mut [u16])
     requires size { (length words.now ≡ 2048) × ((r < 8) × (length out.old ≡ 256)) }
-    requires tested { flaw (G.Ring.element ring.now) (part words.now r) ≡ none }
-    ensures { out.new ≡ plains (model check redundancy G.Ring.root G.Ring.element G.Ring.meaning number ring.now) (part words.now r) }
+    requires tested { flaw (G.element ring.now) (part words.now r) ≡ none }
+    ensures { out.new ≡ plains (model G.check G.redundancy G.root G.element G.meaning G.number ring.now) (part words.now r) }
 {
     let base = 256 * r as usize;
     for k in 0..256 {

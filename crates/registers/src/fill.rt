@@ -21,10 +21,10 @@ pub fn load_register<G: GuardedRing>(
     requires room { (length words.old ≡ 2048) × (r < 8) }
     requires sizes { (length xs.now ≡ 256) × ((length cs.now ≡ 256) × (length bytes.now ≡ 256)) }
     requires range { flaw (below 3329) xs.now ≡ none }
-    requires checks { flaw (below (check ring.now)) cs.now ≡ none }
-    requires digits { flaw (below (redundancy ring.now)) bytes.now ≡ none }
+    requires checks { flaw (below (G.check ring.now)) cs.now ≡ none }
+    requires digits { flaw (below (G.redundancy ring.now)) bytes.now ≡ none }
     ensures only { Only r words.old words.new }
-    ensures holds { Holding (model check redundancy G.Ring.root G.Ring.element G.Ring.meaning number ring.now) xs.now cs.now bytes.now (part words.new r) }
+    ensures holds { Holding (model G.check G.redundancy G.root G.element G.meaning G.number ring.now) xs.now cs.now bytes.now (part words.new r) }
 {
     let base = 256 * r as usize;
     for k in 0..256 {
@@ -36,11 +36,11 @@ pub fn load_register<G: GuardedRing>(
 pub fn refresh_register<G: GuardedRing>(ring: &G, words: &mut [G::Word], r: u8, bytes: &[u8])
     requires room { (length words.old ≡ 2048) × (r < 8) }
     requires size { length bytes.now ≡ 256 }
-    requires digits { flaw (below (redundancy ring.now)) bytes.now ≡ none }
-    requires tested { flaw (G.Ring.element ring.now) (part words.old r) ≡ none }
+    requires digits { flaw (below (G.redundancy ring.now)) bytes.now ≡ none }
+    requires tested { flaw (G.element ring.now) (part words.old r) ≡ none }
     ensures only { Only r words.old words.new }
-    ensures means { Meaning (model check redundancy G.Ring.root G.Ring.element G.Ring.meaning number ring.now) (map (G.Ring.meaning ring.now) (part words.old r)) (part words.new r) }
-    ensures numbers { Numbered (model check redundancy G.Ring.root G.Ring.element G.Ring.meaning number ring.now) bytes.now (part words.new r) }
+    ensures means { Meaning (model G.check G.redundancy G.root G.element G.meaning G.number ring.now) (map (G.meaning ring.now) (part words.old r)) (part words.new r) }
+    ensures numbers { Numbered (model G.check G.redundancy G.root G.element G.meaning G.number ring.now) bytes.now (part words.new r) }
 {
     let base = 256 * r as usize;
     for k in 0..256 {
@@ -51,7 +51,7 @@ pub fn refresh_register<G: GuardedRing>(ring: &G, words: &mut [G::Word], r: u8, 
 
 /// Writes lift(0, 0, 0) into every word.
 pub fn wipe<G: GuardedRing>(ring: &G, words: &mut [G::Word])
-    ensures { Wiped (model check redundancy G.Ring.root G.Ring.element G.Ring.meaning number ring.now) words.new }
+    ensures { Wiped (model G.check G.redundancy G.root G.element G.meaning G.number ring.now) words.new }
 {
     let zero = ring.lift(0, 0, 0);
     let n = words.len();

@@ -16,10 +16,10 @@ use rings::Ring;
 fn add_registers<G: GuardedRing>(ring: &G, words: &mut [G::Word], d: u8, a: u8, b: u8)
     requires size { length words.old ≡ 2048 }
     requires known { (d < 8) × ((a < 8) × (b < 8)) }
-    requires left { flaw (G.Ring.element ring.now) (part words.old a) ≡ none }
-    requires right { flaw (G.Ring.element ring.now) (part words.old b) ≡ none }
+    requires left { flaw (G.element ring.now) (part words.old a) ≡ none }
+    requires right { flaw (G.element ring.now) (part words.old b) ≡ none }
     ensures only { Only d words.old words.new }
-    ensures means { Meaning (model check redundancy G.Ring.root G.Ring.element G.Ring.meaning number ring.now) (combined (meanings (model check redundancy G.Ring.root G.Ring.element G.Ring.meaning number ring.now)) Plus (map (G.Ring.meaning ring.now) (part words.old a)) (map (G.Ring.meaning ring.now) (part words.old b))) (part words.new d) }
+    ensures means { Meaning (model G.check G.redundancy G.root G.element G.meaning G.number ring.now) (combined (meanings (model G.check G.redundancy G.root G.element G.meaning G.number ring.now)) Plus (map (G.meaning ring.now) (part words.old a)) (map (G.meaning ring.now) (part words.old b))) (part words.new d) }
 {
     let (to, left, right) = (256 * d as usize, 256 * a as usize, 256 * b as usize);
     for k in 0..256 {
@@ -33,10 +33,10 @@ fn add_registers<G: GuardedRing>(ring: &G, words: &mut [G::Word], d: u8, a: u8, 
 fn subtract_registers<G: GuardedRing>(ring: &G, words: &mut [G::Word], d: u8, a: u8, b: u8)
     requires size { length words.old ≡ 2048 }
     requires known { (d < 8) × ((a < 8) × (b < 8)) }
-    requires left { flaw (G.Ring.element ring.now) (part words.old a) ≡ none }
-    requires right { flaw (G.Ring.element ring.now) (part words.old b) ≡ none }
+    requires left { flaw (G.element ring.now) (part words.old a) ≡ none }
+    requires right { flaw (G.element ring.now) (part words.old b) ≡ none }
     ensures only { Only d words.old words.new }
-    ensures means { Meaning (model check redundancy G.Ring.root G.Ring.element G.Ring.meaning number ring.now) (combined (meanings (model check redundancy G.Ring.root G.Ring.element G.Ring.meaning number ring.now)) Minus (map (G.Ring.meaning ring.now) (part words.old a)) (map (G.Ring.meaning ring.now) (part words.old b))) (part words.new d) }
+    ensures means { Meaning (model G.check G.redundancy G.root G.element G.meaning G.number ring.now) (combined (meanings (model G.check G.redundancy G.root G.element G.meaning G.number ring.now)) Minus (map (G.meaning ring.now) (part words.old a)) (map (G.meaning ring.now) (part words.old b))) (part words.new d) }
 {
     let (to, left, right) = (256 * d as usize, 256 * a as usize, 256 * b as usize);
     for k in 0..256 {
@@ -57,10 +57,10 @@ pub fn join_registers<G: GuardedRing>(
 )
     requires size { length words.old ≡ 2048 }
     requires known { (d < 8) × ((a < 8) × (b < 8)) }
-    requires left { flaw (G.Ring.element ring.now) (part words.old a) ≡ none }
-    requires right { flaw (G.Ring.element ring.now) (part words.old b) ≡ none }
+    requires left { flaw (G.element ring.now) (part words.old a) ≡ none }
+    requires right { flaw (G.element ring.now) (part words.old b) ≡ none }
     ensures only { Only d words.old words.new }
-    ensures means { Meaning (model check redundancy G.Ring.root G.Ring.element G.Ring.meaning number ring.now) (combined (meanings (model check redundancy G.Ring.root G.Ring.element G.Ring.meaning number ring.now)) operation (map (G.Ring.meaning ring.now) (part words.old a)) (map (G.Ring.meaning ring.now) (part words.old b))) (part words.new d) }
+    ensures means { Meaning (model G.check G.redundancy G.root G.element G.meaning G.number ring.now) (combined (meanings (model G.check G.redundancy G.root G.element G.meaning G.number ring.now)) operation (map (G.meaning ring.now) (part words.old a)) (map (G.meaning ring.now) (part words.old b))) (part words.new d) }
 {
     match operation {
         Operation::Plus => add_registers(ring, words, d, a, b),

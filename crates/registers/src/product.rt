@@ -22,10 +22,10 @@ pub(crate) fn multiply_registers<G: GuardedRing>(
 )
     requires size { length words.old ≡ 2048 }
     requires known { (d < 8) × ((a < 8) × (b < 8)) }
-    requires left { flaw (G.Ring.element ring.now) (part words.old a) ≡ none }
-    requires right { flaw (G.Ring.element ring.now) (part words.old b) ≡ none }
+    requires left { flaw (G.element ring.now) (part words.old a) ≡ none }
+    requires right { flaw (G.element ring.now) (part words.old b) ≡ none }
     ensures only { Only d words.old words.new }
-    ensures means { Meaning (model check redundancy G.Ring.root G.Ring.element G.Ring.meaning number ring.now) (combined (meanings (model check redundancy G.Ring.root G.Ring.element G.Ring.meaning number ring.now)) Times (map (G.Ring.meaning ring.now) (part words.old a)) (map (G.Ring.meaning ring.now) (part words.old b))) (part words.new d) }
+    ensures means { Meaning (model G.check G.redundancy G.root G.element G.meaning G.number ring.now) (combined (meanings (model G.check G.redundancy G.root G.element G.meaning G.number ring.now)) Times (map (G.meaning ring.now) (part words.old a)) (map (G.meaning ring.now) (part words.old b))) (part words.new d) }
 {
     let (to, left, right) = (256 * d as usize, 256 * a as usize, 256 * b as usize);
     for slot in 0..128 {

@@ -26,9 +26,9 @@ pub fn turn_register<G: GuardedRing>(
     requires number { (1 ≤ layer) × (layer ≤ 7) }
     requires size { (length words.old ≡ 2048) × (r < 8) }
     requires lists { (suits 7 (layer - 1) before.now ≡ true) × (suits 7 layer list.now ≡ true) }
-    requires tested { flaw (G.Ring.element ring.now) (part words.old r) ≡ none }
+    requires tested { flaw (G.element ring.now) (part words.old r) ≡ none }
     ensures only { Only r words.old words.new }
-    ensures means { Meaning (model check redundancy G.Ring.root G.Ring.element G.Ring.meaning number ring.now) (layer_under (meanings (model check redundancy G.Ring.root G.Ring.element G.Ring.meaning number ring.now)) way layer before.now list.now (map (G.Ring.meaning ring.now) (part words.old r))) (part words.new r) }
+    ensures means { Meaning (model G.check G.redundancy G.root G.element G.meaning G.number ring.now) (layer_under (meanings (model G.check G.redundancy G.root G.element G.meaning G.number ring.now)) way layer before.now list.now (map (G.meaning ring.now) (part words.old r))) (part words.new r) }
 {
     let base = 256 * r as usize;
     let row = &mut words[base..base + 256];

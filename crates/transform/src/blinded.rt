@@ -15,7 +15,7 @@ use rings::{Refusal, Ring};
 fn lift_row<G: GuardedRing>(ring: &G, f: &[u16], words: &mut [G::Word])
     requires sizes { (length f.now ≡ 256) × (length words.old ≡ 256) }
     requires range { flaw (below 3329) f.now ≡ none }
-    ensures { (k : ℕ) (d : G.Word) → k < 256 → Lifted (model check redundancy G.Ring.root G.Ring.element G.Ring.meaning number ring.now) (slice_index f.now k) 0 0 (slice_index_or words.new k d) }
+    ensures { (k : ℕ) (d : G.Word) → k < 256 → Lifted (model G.check G.redundancy G.root G.element G.meaning G.number ring.now) (slice_index f.now k) 0 0 (slice_index_or words.new k d) }
 {
     for i in 0..256 {
         words[i] = ring.lift(f[i], 0, 0);
@@ -25,8 +25,8 @@ fn lift_row<G: GuardedRing>(ring: &G, f: &[u16], words: &mut [G::Word])
 // Writes the remainders by 3329 of what the words mean.
 fn split_row<G: GuardedRing>(ring: &G, words: &[G::Word], out: &mut [u16])
     requires sizes { (length words.now ≡ 256) × (length out.old ≡ 256) }
-    requires all { Elements (G.Ring.element ring.now) words.now }
-    ensures { (k : ℕ) → k < 256 → slice_index out.new k ≡ held (G.Ring.meaning ring.now) words.now k % 3329 }
+    requires all { Elements (G.element ring.now) words.now }
+    ensures { (k : ℕ) → k < 256 → slice_index out.new k ≡ held (G.meaning ring.now) words.now k % 3329 }
 {
     for i in 0..256 {
         let (s, _) = ring.split(words[i]);
@@ -44,7 +44,7 @@ pub fn forward_guarded<G: GuardedRing>(
 ) -> Result<(), Refusal>
     ensures answers { answer result ≡ ruling (guarded_checks f.now (length words.old) out.old) }
     ensures writes { MatchResult result (λ _. Transformed f.now out.new) (λ _. out.new ≡ out.old) }
-    ensures words { MatchResult result (λ _. WordsHold (model check redundancy G.Ring.root G.Ring.element G.Ring.meaning number ring.now) words.new out.new) (λ _. words.new ≡ words.old) }
+    ensures words { MatchResult result (λ _. WordsHold (model G.check G.redundancy G.root G.element G.meaning G.number ring.now) words.new out.new) (λ _. words.new ≡ words.old) }
 {
     may_transform_guarded(f, words.len(), out)?;
     lift_row(ring, f, words);

@@ -8,17 +8,17 @@ use rings::Ring;
 
 // The root to the power of e, modulo p.
 pub(crate) fn root_power<G: GuardedRing>(ring: &G, e: u8) -> u32
-    ensures { result ≡ (G.Ring.root ring.now ^ e) % check ring.now }
+    ensures { result ≡ (G.root ring.now ^ e) % G.check ring.now }
 {
     ring.split(ring.power(e)).1
 }
 
 // One layer of J, whose groups have one number each. Group g becomes the groups 2g and 2g + 1, so the last group goes first.
 fn halve<G: GuardedRing>(ring: &G, modulus: &Modulus, count: usize, numbers: &mut [u32])
-    requires modulus { modulus.now.p ≡ check ring.now }
+    requires modulus { modulus.now.p ≡ G.check ring.now }
     requires size { (length numbers.old ≡ 128) × (count ≤ 64) }
-    requires small { (k : ℕ) → get_or numbers.old k 0 < check ring.now }
-    ensures { Halved (check ring.now) (G.Ring.root ring.now) count 0 numbers.old numbers.new }
+    requires small { (k : ℕ) → get_or numbers.old k 0 < G.check ring.now }
+    ensures { Halved (G.check ring.now) (G.root ring.now) count 0 numbers.old numbers.new }
 {
     for g in (0..count).rev() {
         let whole = numbers[g];
@@ -30,8 +30,8 @@ fn halve<G: GuardedRing>(ring: &G, modulus: &Modulus, count: usize, numbers: &mu
 
 // The transform of J: number i stands at both places of slot i.
 pub(crate) fn ones_transformed<G: GuardedRing>(ring: &G, modulus: &Modulus) -> [u32; 128]
-    requires { modulus.now.p ≡ check ring.now }
-    ensures { Groups (check ring.now) (G.Ring.root ring.now) 7 result }
+    requires { modulus.now.p ≡ G.check ring.now }
+    ensures { Groups (G.check ring.now) (G.root ring.now) 7 result }
 {
     let mut numbers = [0; 128];
     numbers[0] = 1;

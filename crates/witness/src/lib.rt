@@ -17,7 +17,7 @@ mod transformed;
 /// Writes what a register of this form and witness has to hold modulo p: the coefficients of aJ + bJ², or their transform.
 pub fn residues_due<G: GuardedRing>(ring: &G, form: Form, a: u32, b: u32, numbers: &mut [u32])
     requires { length numbers.old ≡ 256 }
-    ensures { numbers.new ≡ in_form (checks (model check redundancy G.Ring.root G.Ring.element G.Ring.meaning number ring.now)) form (expected (checks (model check redundancy G.Ring.root G.Ring.element G.Ring.meaning number ring.now)) a b) }
+    ensures { numbers.new ≡ in_form (checks (model G.check G.redundancy G.root G.element G.meaning G.number ring.now)) form (expected (checks (model G.check G.redundancy G.root G.element G.meaning G.number ring.now)) a b) }
 {
     match form {
         Form::Transformed => transformed::transform_due(ring, a, b, numbers),

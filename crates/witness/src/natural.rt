@@ -9,7 +9,7 @@ use guarded::GuardedRing;
 // The coefficients of aJ + bJ²: the first is a - 254b, and each grows by 2b to the next.
 pub(crate) fn coefficients_due<G: GuardedRing>(ring: &G, a: u32, b: u32, numbers: &mut [u32])
     requires { length numbers.old ≡ 256 }
-    ensures { numbers.new ≡ expected (checks (model check redundancy G.Ring.root G.Ring.element G.Ring.meaning number ring.now)) a b }
+    ensures { numbers.new ≡ expected (checks (model G.check G.redundancy G.root G.element G.meaning G.number ring.now)) a b }
 {
     let p = ring.check_modulus();
     let modulus = Modulus::of(p);

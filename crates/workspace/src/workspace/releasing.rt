@@ -26,10 +26,10 @@ impl<G: GuardedRing> Workspace<G> {
         out: &mut [u16],
         scratch: &mut [u32],
     ) -> Result<Form, Refusal>
-        ensures serves { Serves (model check redundancy G.Ring.root G.Ring.element G.Ring.meaning number self.now.ring) (state self.now.table) (length words.now) (part words.now) (releasing r (length out.old) (length scratch.old)) (handed result out.new) (state self.now.table) (part words.now) }
+        ensures serves { Serves (model G.check G.redundancy G.root G.element G.meaning G.number self.now.ring) (state self.now.table) (length words.now) (part words.now) (releasing r (length out.old) (length scratch.old)) (handed result out.new) (state self.now.table) (part words.now) }
         ensures keeps { OnErr result (out.new ≡ out.old) }
         ensures cleaned { Cleaned scratch.old scratch.new }
-        ensures judged { Judged (model check redundancy G.Ring.root G.Ring.element G.Ring.meaning number self.now.ring) (state self.now.table) words.now (releasing r (length out.old) (length scratch.old)) (handed result out.new) }
+        ensures judged { Judged (model G.check G.redundancy G.root G.element G.meaning G.number self.now.ring) (state self.now.table) words.now (releasing r (length out.old) (length scratch.old)) (handed result out.new) }
     {
         let n = scratch.len();
         if n != 256 {

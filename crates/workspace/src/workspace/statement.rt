@@ -11,8 +11,8 @@ impl<G: GuardedRing> Workspace<G> {
     ///
     /// Its contract is the theorem over every history of calls and strikes of these two.
     pub fn comparable<H: GuardedRing>(&self, other: &Workspace<H>) -> bool
-        ensures answers { result ≡ (G.GuardedRing.check self.now.ring == H.GuardedRing.check other.now.ring) }
-        ensures stands { Stands (model G.GuardedRing.check G.GuardedRing.redundancy G.Ring.root G.Ring.element G.Ring.meaning G.GuardedRing.number self.now.ring) (model H.GuardedRing.check H.GuardedRing.redundancy H.Ring.root H.Ring.element H.Ring.meaning H.GuardedRing.number other.now.ring) }
+        ensures answers { result ≡ (G.check self.now.ring == H.check other.now.ring) }
+        ensures stands { Stands (model G.check G.redundancy G.root G.element G.meaning G.number self.now.ring) (model H.check H.redundancy H.root H.element H.meaning H.number other.now.ring) }
     {
         self.ring.check_modulus() == other.ring.check_modulus()
     }
