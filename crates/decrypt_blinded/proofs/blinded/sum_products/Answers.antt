@@ -10,7 +10,7 @@ use Rattle.decrypt_blinded.proofs.blinded.sum_products.Goals as goal
 
 pub returns-in_err-load_pair-2 : goal.returns-in_err-load_pair-2
 returns-in_err-load_pair-2 g c =
-    let p = err_from_is_err_and c.from-residual-in_err-load_pair-2.result c.from-residual-in_err-load_pair-2.ensures.1 in
+    let p = err_from_is_err_and c.from_residual-in_err-load_pair-2.result c.from_residual-in_err-load_pair-2.ensures.1 in
     record { keeps = c.in_err-load_pair-2.ensures.keeps ∙ c.loop-i.invariant.0 ∙ c.in_ok-multiply.ensures.keeps ∙ c.in_ok-load_pair.ensures.keeps; summed = rw p.1 tt }
 
 pub loop-i-init : goal.loop-i-init

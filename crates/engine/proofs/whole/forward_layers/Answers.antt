@@ -9,14 +9,14 @@ pub forward_layer-requires : goal.forward_layer-requires
 forward_layer-requires g c = record {
   number = (omega arith, omega arith);
   size = omega arith;
-  lists = (rw c.no_masks_lem.ensures (no_masks_suit (c.loop-layer.layer - 1)), rw c.no_masks-in-loop-layer.ensures (no_masks_suit c.loop-layer.layer));
+  lists = (rw c.no_masks.ensures (no_masks_suit (c.loop-layer.layer - 1)), rw c.no_masks-in-loop-layer.ensures (no_masks_suit c.loop-layer.layer));
   all = c.loop-layer.invariant.0;
 }
 
 pub loop-layer-preserved : goal.loop-layer-preserved
 loop-layer-preserved g c = (
   c.forward_layer.ensures.all,
-  forward_more _ _ _ c.loop-layer.layer _ _ c.no_masks_lem.ensures c.no_masks-in-loop-layer.ensures _ _ c.forward_layer.ensures.went c.loop-layer.invariant.1,
+  forward_more _ _ _ c.loop-layer.layer _ _ c.no_masks.ensures c.no_masks-in-loop-layer.ensures _ _ c.forward_layer.ensures.went c.loop-layer.invariant.1,
 )
 
 pub returns : goal.returns

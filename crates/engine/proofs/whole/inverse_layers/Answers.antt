@@ -9,14 +9,14 @@ pub inverse_layer-requires : goal.inverse_layer-requires
 inverse_layer-requires g c = record {
   number = (omega arith, omega arith);
   size = omega arith;
-  lists = (rw c.no_masks_lem.ensures (no_masks_suit (c.loop-layer.layer - 1)), rw c.no_masks-in-loop-layer.ensures (no_masks_suit c.loop-layer.layer));
+  lists = (rw c.no_masks.ensures (no_masks_suit (c.loop-layer.layer - 1)), rw c.no_masks-in-loop-layer.ensures (no_masks_suit c.loop-layer.layer));
   all = c.loop-layer.invariant.0;
 }
 
 pub loop-layer-preserved : goal.loop-layer-preserved
 loop-layer-preserved g c = (
   c.inverse_layer.ensures.all,
-  λ i v. inverse_more _ _ _ c.loop-layer.layer _ _ c.no_masks_lem.ensures c.no_masks-in-loop-layer.ensures _ _ i (c.inverse_layer.ensures.went i v) (c.loop-layer.invariant.1 i v),
+  λ i v. inverse_more _ _ _ c.loop-layer.layer _ _ c.no_masks.ensures c.no_masks-in-loop-layer.ensures _ _ i (c.inverse_layer.ensures.went i v) (c.loop-layer.invariant.1 i v),
 )
 
 pub returns : goal.returns

@@ -10,7 +10,7 @@ use Rattle.records.proofs.checks.check_turn.Goals as goal
 
 pub returns-in_err-unhindered : goal.returns-in_err-unhindered
 returns-in_err-unhindered c =
-    let p = err_from_is_err_and c.from-residual-in_err-unhindered.result c.from-residual-in_err-unhindered.ensures.1 in
+    let p = err_from_is_err_and c.from_residual-in_err-unhindered.result c.from_residual-in_err-unhindered.ensures.1 in
     let list =
     asks_busy (rows c.args.table.now.records) c.args.lent c.args.r c.args.way c.args.masks.now _ c.record_of.ensures
     c.in_ok-sized.ensures c.in_ok-known.ensures c.in_ok-layer.ensures.says in
@@ -18,7 +18,7 @@ returns-in_err-unhindered c =
 
 pub returns-in_err-suited : goal.returns-in_err-suited
 returns-in_err-suited c =
-    let p = err_from_is_err_and c.from-residual-in_err-suited.result c.from-residual-in_err-suited.ensures.1 in
+    let p = err_from_is_err_and c.from_residual-in_err-suited.result c.from_residual-in_err-suited.ensures.1 in
     let list =
     asks_masks (rows c.args.table.now.records) c.args.lent c.args.r c.args.way c.args.masks.now _ c.record_of.ensures
     c.in_ok-sized.ensures c.in_ok-known.ensures c.in_ok-layer.ensures.says c.in_ok-unhindered.ensures

@@ -13,11 +13,11 @@ returns c =
     let at = c.args.at in
     let next = at + 3 + c.in_ok-kind.n in
     let read : (flaw_at sheet at ≡ none) × Reads sheet at c.content.result next = search rules in
-    let spelt = spelled sheet (λ i. (c.type-inv.sheet i).fits) at next c.content.result read.1 in
+    let spelt = spelled sheet (λ i. (c.type_inv.sheet i).fits) at next c.content.result read.1 in
     record { field = read; written = spelt; heard = same sheet at next c.content.result read.1 spelt }
 
 pub returns-in_err-kind : goal.returns-in_err-kind
 returns-in_err-kind c =
-    let p = err_from_is_err_and c.from-residual.result c.from-residual.ensures.1 in
+    let p = err_from_is_err_and c.from_residual.result c.from_residual.ensures.1 in
     let flaw = c.in_err-kind.ensures in
     rw (p.1, p.2) (record { field = flaw; written = tt; heard = never_refused c.args.sheet.now c.args.at c.in_err-kind.field-0.0 flaw })

@@ -23,7 +23,7 @@ loop-step-preserved c =
     let next = c.next.new.self.at in
     let read = c.in-Ok-step.field-0 in
     let step = subst (λ x. Next x fields.at (Some (Ok read)) next) c.loop-step.invariant.0 (rw c.in-Ok-step.is at c.in-Some.ensures.step) in
-    (rw c.next.ensures.sheet c.loop-step.invariant.0, a_field_on sheet (λ i. (c.type-inv.sheet i).fits) c.loop-step.n fields.at next read.field c.loop-step.invariant.1 step.1 step.3, c.loop-step.invariant.2)
+    (rw c.next.ensures.sheet c.loop-step.invariant.0, a_field_on sheet (λ i. (c.type_inv.sheet i).fits) c.loop-step.n fields.at next read.field c.loop-step.invariant.1 step.1 step.3, c.loop-step.invariant.2)
 
 pub returns-in-Err-step : goal.returns-in-Err-step
 returns-in-Err-step c =

@@ -6,7 +6,7 @@ use Rattle.workspace.proofs.workspace.Workspace.clear.Goals as goal
 
 pub returns-in_err-check_clear : goal.returns-in_err-check_clear
 returns-in_err-check_clear g c =
-    let p = err_from_is_err_and c.from-residual.result c.from-residual.ensures.1 in
+    let p = err_from_is_err_and c.from_residual.result c.from_residual.ensures.1 in
     record { keeps = refl; serves = rw (p.1, p.2) (refuses_at _ _ _ _ _ (or_none _ _ c.in_err-check_clear.ensures)) }
 
 pub returns : goal.returns

@@ -8,7 +8,7 @@ use Rattle.workspace.proofs.workspace.Workspace.release.Goals as goal
 pub returns-in_err-check_release : goal.returns-in_err-check_release
 returns-in_err-check_release g c =
     let law = g.met.G.GuardedRing.lawful c.args.self.now.ring in
-    let p = err_from_is_err_and c.from-residual.result c.from-residual.ensures.1 in
+    let p = err_from_is_err_and c.from_residual.result c.from_residual.ensures.1 in
     let served = refuses_at _ _ _ _ _ (or_some _ _ _ c.in_err-check_release.ensures) in
     record {
       serves = rw (p.1, p.2) served;
@@ -20,7 +20,7 @@ returns-in_err-check_release g c =
 pub returns-in_err-form : goal.returns-in_err-form
 returns-in_err-form g c =
     let law = g.met.G.GuardedRing.lawful c.args.self.now.ring in
-    let p = err_from_is_err_and c.from-residual-in_err-form.result c.from-residual-in_err-form.ensures.1 in
+    let p = err_from_is_err_and c.from_residual-in_err-form.result c.from_residual-in_err-form.ensures.1 in
     let served = refuses_at _ _ _ _ _ c.in_err-form.ensures.says in
     record {
       serves = rw (p.1, p.2) served;

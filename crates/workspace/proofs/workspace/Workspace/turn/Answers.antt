@@ -5,7 +5,7 @@ use Rattle.workspace.proofs.workspace.Workspace.turn.Goals as goal
 
 pub returns-in_err-layer : goal.returns-in_err-layer
 returns-in_err-layer g c =
-    let p = err_from_is_err_and c.from-residual.result c.from-residual.ensures.1 in
+    let p = err_from_is_err_and c.from_residual.result c.from_residual.ensures.1 in
     record { keeps = refl; serves = rw (p.1, p.2) (refuses_at _ _ _ _ _ c.in_err-layer.ensures.says) }
 
 pub returns : goal.returns
