@@ -5,10 +5,8 @@ use Rattle.std.proofs.lemmas.Bool.{eqb-true, eq-eqb}
 use Rattle.algebra.specs.declared.Direction.{Direction}
 use Rattle.algebra.specs.declared.Direction.TheVariants.{Forward, Inverse}
 use Rattle.guarded.specs.Model.{Guarded}
-use Rattle.histories.specs.declared.call.Kind.TheVariants.{Polynomial, Transform}
-use Rattle.histories.specs.declared.call.Operation.TheVariants.{Plus, Minus, Times}
 use Rattle.histories.specs.Operations.{difference_of}
-use Rattle.histories.specs.Calls.{coefficients, State, Call, load, turn, join, part}
+use Rattle.histories.specs.Calls.{coefficients, State, Call, load, turn, join, part, polynomial, transform, plus, minus, times}
 use Rattle.histories.specs.Serves.{Answer, put, done, Serves}
 use Rattle.histories.specs.Ledger.{Held, nothing, holds, moved, ledger_after}
 use Rattle.histories.specs.Tracked.{Tracked, Keeps}
@@ -89,40 +87,40 @@ module _ {W : Type 0} (G : Guarded W) where
 
   -- u and the values xs are loaded, and u has had all layers
   pub pairs : (s₀ s₁ s₂ s₃ : State) (w₀ w₁ w₂ w₃ : List W) (u xs : List ℕ) (c c' : ℕ) (bytes bytes' : List ℕ) → length w₀ ≡ 2048 → length w₂ ≡ 2048 →
-      Serves G s₀ (length w₀) (part w₀) (load Polynomial 0 u c bytes) done s₁ (part w₁) → Turned G s₁ w₁ s₂ w₂ Forward 0 →
-      Serves G s₂ (length w₂) (part w₂) (load Transform 1 xs c' bytes') done s₃ (part w₃) → Paired G s₀ w₀ s₃ w₃ u xs
+      Serves G s₀ (length w₀) (part w₀) (load polynomial 0 u c bytes) done s₁ (part w₁) → Turned G s₁ w₁ s₂ w₂ Forward 0 →
+      Serves G s₂ (length w₂) (part w₂) (load transform 1 xs c' bytes') done s₃ (part w₃) → Paired G s₀ w₀ s₃ w₃ u xs
   pairs s₀ s₁ s₂ s₃ w₀ w₁ w₂ w₃ u xs c c' bytes bytes' size size' first turned second L t =
-      let t₁ = tracks_on G s₀ s₁ w₀ w₁ L size (load Polynomial 0 u c bytes) done refl first t in
+      let t₁ = tracks_on G s₀ s₁ w₀ w₁ L size (load polynomial 0 u c bytes) done refl first t in
       let t₂ = turned (put 0 (holds u 0) L) u (put_here 0 (holds u 0) L) t₁ in
       let t₃ = subst (Tracked G s₂ w₂) (put_twice 0 (holds u 7) (holds u 0) L) t₂ in
-      tracks_on G s₂ s₃ w₂ w₃ _ size' (load Transform 1 xs c' bytes') done refl second t₃
+      tracks_on G s₂ s₃ w₂ w₃ _ size' (load transform 1 xs c' bytes') done refl second t₃
 
   -- the first product
   pub begins : (s₀ s₁ s₂ : State) (w₀ w₁ w₂ : List W) (us ss : List ℕ) → length w₁ ≡ 2048 → Paired G s₀ w₀ s₁ w₁ (row us 0) (row ss 0) →
-      Serves G s₁ (length w₁) (part w₁) (join Times 2 0 1) done s₂ (part w₂) → Summed G s₀ w₀ s₂ w₂ us ss 0
+      Serves G s₁ (length w₁) (part w₁) (join times 2 0 1) done s₂ (part w₂) → Summed G s₀ w₀ s₂ w₂ us ss 0
   begins s₀ s₁ s₂ w₀ w₁ w₂ us ss size paired served L t = record {
     all = _;
-    tracked = tracks_on G s₁ s₂ w₁ w₂ _ size (join Times 2 0 1) done refl served (paired L t);
+    tracked = tracks_on G s₁ s₂ w₁ w₂ _ size (join times 2 0 1) done refl served (paired L t);
     here = refl;
   }
 
   -- one product more
   continues : (s₁ s₂ s₃ s₄ : State) (w₁ w₂ w₃ w₄ : List W) (us ss : List ℕ) (k : ℕ) → length w₂ ≡ 2048 → length w₃ ≡ 2048 →
       Keeps G s₁ w₁ 2 (products us ss k) 7 → Paired G s₁ w₁ s₂ w₂ (row us (suc k)) (row ss (suc k)) →
-      Serves G s₂ (length w₂) (part w₂) (join Times 0 0 1) done s₃ (part w₃) → Serves G s₃ (length w₃) (part w₃) (join Plus 2 2 0) done s₄ (part w₄) →
+      Serves G s₂ (length w₂) (part w₂) (join times 0 0 1) done s₃ (part w₃) → Serves G s₃ (length w₃) (part w₃) (join plus 2 2 0) done s₄ (part w₄) →
       Keeps G s₄ w₄ 2 (products us ss (suc k)) 7
   continues s₁ s₂ s₃ s₄ w₁ w₂ w₃ w₄ us ss k size size' kept paired first second =
       let t₂ = paired kept.all kept.tracked in
-      let t₃ = tracks_on G s₂ s₃ w₂ w₃ _ size (join Times 0 0 1) done refl first t₂ in
+      let t₃ = tracks_on G s₂ s₃ w₂ w₃ _ size (join times 0 0 1) done refl first t₂ in
       record {
         all = _;
-        tracked = tracks_on G s₃ s₄ w₃ w₄ _ size' (join Plus 2 2 0) done refl second t₃;
+        tracked = tracks_on G s₃ s₄ w₃ w₄ _ size' (join plus 2 2 0) done refl second t₃;
         here = rw kept.here refl;
       }
 
   pub continues_at : (s₁ s₂ s₃ s₄ : State) (w₁ w₂ w₃ w₄ : List W) (us ss : List ℕ) (i : ℕ) → 1 ≤ i → length w₂ ≡ 2048 → length w₃ ≡ 2048 →
       Keeps G s₁ w₁ 2 (products us ss (i - 1)) 7 → Paired G s₁ w₁ s₂ w₂ (row us i) (row ss i) →
-      Serves G s₂ (length w₂) (part w₂) (join Times 0 0 1) done s₃ (part w₃) → Serves G s₃ (length w₃) (part w₃) (join Plus 2 2 0) done s₄ (part w₄) →
+      Serves G s₂ (length w₂) (part w₂) (join times 0 0 1) done s₃ (part w₃) → Serves G s₃ (length w₃) (part w₃) (join plus 2 2 0) done s₄ (part w₄) →
       Keeps G s₄ w₄ 2 (products us ss (i + 1 - 1)) 7
   continues_at s₁ s₂ s₃ s₄ w₁ w₂ w₃ w₄ us ss zero low size size' kept paired first second = absurd (omega arith)
   continues_at s₁ s₂ s₃ s₄ w₁ w₂ w₃ w₄ us ss (suc k) low size size' kept paired first second =
@@ -133,12 +131,12 @@ module _ {W : Type 0} (G : Guarded W) where
 
   -- the sum is taken back and subtracted from v
   pub finishes : (s₁ s₂ s₃ s₄ : State) (w₁ w₂ w₃ w₄ : List W) (v f : List ℕ) (c : ℕ) (bytes : List ℕ) → length w₂ ≡ 2048 → length w₃ ≡ 2048 →
-      Keeps G s₁ w₁ 2 f 7 → Turned G s₁ w₁ s₂ w₂ Inverse 2 → Serves G s₂ (length w₂) (part w₂) (load Polynomial 0 v c bytes) done s₃ (part w₃) →
-      Serves G s₃ (length w₃) (part w₃) (join Minus 0 0 2) done s₄ (part w₄) → Keeps G s₄ w₄ 0 (difference_of coefficients v f) 0
+      Keeps G s₁ w₁ 2 f 7 → Turned G s₁ w₁ s₂ w₂ Inverse 2 → Serves G s₂ (length w₂) (part w₂) (load polynomial 0 v c bytes) done s₃ (part w₃) →
+      Serves G s₃ (length w₃) (part w₃) (join minus 0 0 2) done s₄ (part w₄) → Keeps G s₄ w₄ 0 (difference_of coefficients v f) 0
   finishes s₁ s₂ s₃ s₄ w₁ w₂ w₃ w₄ v f c bytes size size' kept turned first second =
       let t₂ = turned kept.all f kept.here kept.tracked in
-      let t₃ = tracks_on G s₂ s₃ w₂ w₃ _ size (load Polynomial 0 v c bytes) done refl first t₂ in
-      record { all = _; tracked = tracks_on G s₃ s₄ w₃ w₄ _ size' (join Minus 0 0 2) done refl second t₃; here = refl }
+      let t₃ = tracks_on G s₂ s₃ w₂ w₃ _ size (load polynomial 0 v c bytes) done refl first t₂ in
+      record { all = _; tracked = tracks_on G s₃ s₄ w₃ w₄ _ size' (join minus 0 0 2) done refl second t₃; here = refl }
 
 -- polynomial i of a row, as the code lends it
 pub row_lent : (xs : List ℕ) (i : ℕ) → take (256 * i + 256 - 256 * i) (drop (256 * i) xs) ≡ row xs i

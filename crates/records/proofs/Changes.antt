@@ -4,13 +4,11 @@ use mathlib.Core.Path.{fun_ext}
 use Rattle.std.proofs.lemmas.List.{get_or-set_same, get_or-set_other}
 use Rattle.std.proofs.lemmas.Bool.{true≢false, and_parts, and_from, cases_Bool, cases_eq, eq-eqb, ne_eqb, eqb-true}
 use Rattle.algebra.specs.Masks.{is_list_length}
-use Rattle.histories.specs.declared.call.Kind.{Kind}
-use Rattle.histories.specs.declared.call.Kind.TheVariants.{Polynomial, Transform}
 use Rattle.histories.specs.declared.register.Form.{Form}
 use Rattle.histories.specs.declared.register.Form.TheVariants.{Empty, Natural, Transformed, Rising, Falling}
 use Rattle.histories.specs.declared.register.Register.{Register}
 use Rattle.histories.specs.Forms.{in_work, whole}
-use Rattle.histories.specs.Calls.{State, empty_record, form_of}
+use Rattle.histories.specs.Calls.{State, empty_record, form_of, Kind, polynomial, transform}
 use Rattle.histories.specs.Serves.{put}
 use Rattle.records.specs.Rows.{rows, proper, Proper, Alone, Single, Listed}
 use Rattle.records.specs.Tables.{with_register, with_form}
@@ -113,5 +111,5 @@ whole_idle (Rising s) h = sym h
 whole_idle (Falling s) h = sym h
 
 pub loaded_idle : (kind : Kind) → in_work (form_of kind) ≡ false
-loaded_idle Polynomial = refl
-loaded_idle Transform = refl
+loaded_idle polynomial = refl
+loaded_idle transform = refl

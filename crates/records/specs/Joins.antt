@@ -3,10 +3,9 @@ use Rattle.std.specs.Prelude.{ℕ, List, ◌∷◌}
 use Rattle.rings.specs.declared.refusal.Refusal.{Refusal}
 use Rattle.rings.specs.declared.refusal.Refusal.TheVariants as refuse
 use Rattle.rings.specs.Refusals.{Check, test}
-use Rattle.histories.specs.declared.call.Operation.{Operation}
 use Rattle.histories.specs.declared.register.Register.{Register}
 use Rattle.histories.specs.Forms.{same_form}
-use Rattle.histories.specs.Calls.{used, idle, joins, factors}
+use Rattle.histories.specs.Calls.{used, idle, joins, factors, Operation}
 
 -- the forms of the operands, and of a product the factors
 abbrev pub of_operands : (ℕ → Register) → Operation → (a b : ℕ) → List (Check Refusal)

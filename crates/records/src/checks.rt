@@ -3,8 +3,7 @@ ghost use Rattle.std.proofs.Math.Option.{none, some};
 ghost use Rattle.std.specs.Option as options;
 ghost use Rattle.rings.specs.declared.refusal.Refusal.TheVariants as refuse;
 ghost use Rattle.rings.specs.Refusals.{first, scan, flaw};
-ghost use Rattle.histories.specs.declared.call.Kind.TheVariants.{Polynomial};
-ghost use Rattle.histories.specs.Calls.{load, turn, refresh, clear, release, eight, free, opened, rules};
+ghost use Rattle.histories.specs.Calls.{load, turn, refresh, clear, release, eight, free, opened, rules, polynomial};
 ghost use Rattle.histories.specs.Answers.{complaint};
 ghost use Rattle.records.specs.Rows.{rows};
 ghost use Rattle.records.specs.Tables.{state};
@@ -27,7 +26,7 @@ pub fn check_load(
     c: u32,
     bytes: &[u8],
 ) -> Result<(), Refusal>
-    ensures { complaint result ≡ first (rules p t (rows table.now.records) lent (load Polynomial r xs.now c bytes.now)) }
+    ensures { complaint result ≡ first (rules p t (rows table.now.records) lent (load polynomial r xs.now c bytes.now)) }
 {
     lists::sized(lent, 2048, 0)?;
     lists::sized(xs.len(), 256, 1)?;

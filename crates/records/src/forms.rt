@@ -3,7 +3,7 @@ ghost use Rattle.rings.specs.declared.refusal.Refusal.TheVariants as refuse;
 ghost use Rattle.rings.specs.Refusals.{first, test as checked};
 ghost use Rattle.histories.specs.Forms.{occupied, in_work as works, is_transformed as transformed, whole as entire, same_form as alike, turns, done_of, form_after};
 ghost use Rattle.histories.specs.Answers.{complaint};
-ghost use Rattle.records.specs.Rows.{proper as is-proper};
+ghost use Rattle.records.specs.Rows.{proper as is_proper};
 
 use algebra::Direction;
 use histories::Form;
@@ -71,7 +71,7 @@ pub(crate) fn idle(form: Form, r: u8) -> Result<(), Refusal>
 
 /// The layer that comes next in this direction, and the form that it leaves.
 pub(crate) fn next_layer(form: Form, way: Direction, r: u8) -> Result<(u8, Form), Refusal>
-    requires { is-proper form ≡ true }
+    requires { is_proper form ≡ true }
     ensures says { complaint result ≡ first (checked (occupied form) (refuse.Empty r) ∷ checked (turns way form) (refuse.Form r) ∷ []) }
     ensures found { IfOk result (λ x. (x.0 ≡ suc (done_of form)) × (x.1 ≡ form_after way x.0)) }
 {

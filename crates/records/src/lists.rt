@@ -2,7 +2,7 @@ ghost use Rattle.std.specs.Prelude.{◌≡◌, ◌&&◌, [], ◌∷◌, length, 
 ghost use Rattle.algebra.specs.Masks.{suits};
 ghost use Rattle.rings.specs.declared.refusal.Refusal.TheVariants as refuse;
 ghost use Rattle.rings.specs.Refusals.{first, test as checked, scan, flaw, below};
-ghost use Rattle.histories.specs.Calls.{sized as is-sized, known as is_Known, digits as are-digits};
+ghost use Rattle.histories.specs.Calls.{sized as is_sized, known as is_Known, digits as are_digits};
 ghost use Rattle.histories.specs.Answers.{complaint};
 
 use engine::masks::suit;
@@ -10,7 +10,7 @@ use rings::Refusal;
 
 /// A slice, at its position among the call's slices, that has to have so many elements.
 pub(crate) fn sized(n: usize, wanted: usize, position: u8) -> Result<(), Refusal>
-    ensures { complaint result ≡ first (is-sized n wanted position ∷ []) }
+    ensures { complaint result ≡ first (is_sized n wanted position ∷ []) }
 {
     if n == wanted {
         Ok(())
@@ -55,7 +55,7 @@ pub(crate) fn witness(c: u32, p: u32) -> Result<(), Refusal>
 /// Redundancy bytes that have to be below t.
 pub(crate) fn digits(t: u8, bytes: &[u8]) -> Result<(), Refusal>
     requires { length bytes.now ≡ 256 }
-    ensures { complaint result ≡ first (are-digits t bytes.now ∷ []) }
+    ensures { complaint result ≡ first (are_digits t bytes.now ∷ []) }
 {
     for i in 0..256 {
         if bytes[i] >= t {

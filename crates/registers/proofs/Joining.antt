@@ -8,9 +8,8 @@ use Rattle.algebra.specs.Congruence.{Same}
 use Rattle.algebra.specs.Polynomials.{coefficient}
 use Rattle.algebra.proofs.Modular.{same_of, same_sym, same_mod, same_sub, ◌⨾◌}
 use Rattle.guarded.specs.Model.{Guarded, Lawful}
-use Rattle.histories.specs.declared.call.Operation.TheVariants.{Plus, Minus}
 use Rattle.histories.specs.Operations.{Base, neg, sum_of, difference_of}
-use Rattle.histories.specs.Calls.{part, meanings}
+use Rattle.histories.specs.Calls.{part, meanings, plus, minus}
 use Rattle.histories.specs.Serves.{Meaning, combined}
 use Rattle.histories.proofs.Basics.{part_size}
 use Rattle.registers.proofs.Rows.{Filled, part_within, part_at}
@@ -61,7 +60,7 @@ module _ {W : Type 0} (G : Guarded W) (law : Lawful G) (ws ws' : List W) (d a b 
 
   module _ (m : ℕ) (joint : m ≡ 3329 * G.p) where
     pub sums : Filled (256 * d) 256 (Combined G.element G.meaning (sum_by m) ws a b) ws ws' →
-        Meaning G (combined (meanings G) Plus (map G.meaning (part ws a)) (map G.meaning (part ws b))) (part ws' d)
+        Meaning G (combined (meanings G) plus (map G.meaning (part ws a)) (map G.meaning (part ws b))) (part ws' d)
     unfolding sum_of
     sums f =
         let here = part_within d (Combined G.element G.meaning (sum_by m) ws a b) ws ws' f in
@@ -70,7 +69,7 @@ module _ {W : Type 0} (G : Guarded W) (law : Lawful G) (ws ws' : List W) (d a b 
         ⨾ same_of (sym ((here k e l).means e ∙ rw (joint, at_is a ka k e l, at_is b kb k e l))))
 
     pub differences : Filled (256 * d) 256 (Combined G.element G.meaning (difference_by m) ws a b) ws ws' →
-        Meaning G (combined (meanings G) Minus (map G.meaning (part ws a)) (map G.meaning (part ws b))) (part ws' d)
+        Meaning G (combined (meanings G) minus (map G.meaning (part ws a)) (map G.meaning (part ws b))) (part ws' d)
     unfolding difference_of
     differences f =
         let here = part_within d (Combined G.element G.meaning (difference_by m) ws a b) ws ws' f in

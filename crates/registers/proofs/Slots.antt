@@ -13,9 +13,8 @@ use Rattle.algebra.proofs.Theorems.{products}
 use Rattle.engine.specs.Slots.{SlotProduct}
 use Rattle.engine.proofs.Slots.{gamma_by, other_root}
 use Rattle.guarded.specs.Model.{Guarded, Lawful}
-use Rattle.histories.specs.declared.call.Operation.TheVariants.{Times}
 use Rattle.histories.specs.Operations.{neg, slot_product_of}
-use Rattle.histories.specs.Calls.{part, meanings}
+use Rattle.histories.specs.Calls.{part, meanings, times}
 use Rattle.histories.specs.Serves.{Meaning, combined}
 use Rattle.histories.proofs.Basics.{part_size}
 use Rattle.registers.proofs.Rows.{Filled, filled_more, filled_all, part_within}
@@ -60,7 +59,7 @@ module _ {W : Type 0} (G : Guarded W) (law : Lawful G) (ws ws' : List W) (d a b 
   at r k = coefficient (map G.meaning (part ws r)) k
 
   pub slot_products : (m : ℕ) → m ≡ 3329 * G.p → Filled (256 * d) 256 (Multiplied G.element G.meaning m G.w (at a) (at b)) ws ws' →
-      Meaning G (combined (meanings G) Times (map G.meaning (part ws a)) (map G.meaning (part ws b))) (part ws' d)
+      Meaning G (combined (meanings G) times (map G.meaning (part ws a)) (map G.meaning (part ws b))) (part ws' d)
   unfolding slot_product_of
   slot_products m joint f =
       let here = part_within d (Multiplied G.element G.meaning m G.w (at a) (at b)) ws ws' f in

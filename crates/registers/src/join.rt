@@ -2,10 +2,10 @@ ghost use Rattle.std.specs.Prelude.{◌≡◌, ℕ, ◌+◌, ◌*◌, ◌<◌, m
 ghost use Rattle.std.proofs.Math.Option.{none};
 ghost use Rattle.rings.specs.Refusals.{flaw};
 ghost use Rattle.guarded.specs.Model.{guarded as model};
-ghost use Rattle.histories.specs.declared.call.Operation.TheVariants.{Plus, Minus};
-ghost use Rattle.histories.specs.Calls.{part, meanings};
+ghost use Rattle.histories.specs.Calls.{part, meanings, plus, minus};
 ghost use Rattle.histories.specs.Serves.{Meaning, combined};
 ghost use Rattle.registers.specs.Rows.{Only};
+ghost use Rattle.histories.specs.Kinds.{operation_of};
 
 use crate::product::multiply_registers;
 use guarded::GuardedRing;
@@ -19,7 +19,7 @@ fn add_registers<G: GuardedRing>(ring: &G, words: &mut [G::Word], d: u8, a: u8, 
     requires left { flaw (G.element ring.now) (part words.old a) ≡ none }
     requires right { flaw (G.element ring.now) (part words.old b) ≡ none }
     ensures only { Only d words.old words.new }
-    ensures means { Meaning (model G.check G.redundancy G.root G.element G.meaning G.number ring.now) (combined (meanings (model G.check G.redundancy G.root G.element G.meaning G.number ring.now)) Plus (map (G.meaning ring.now) (part words.old a)) (map (G.meaning ring.now) (part words.old b))) (part words.new d) }
+    ensures means { Meaning (model G.check G.redundancy G.root G.element G.meaning G.number ring.now) (combined (meanings (model G.check G.redundancy G.root G.element G.meaning G.number ring.now)) plus (map (G.meaning ring.now) (part words.old a)) (map (G.meaning ring.now) (part words.old b))) (part words.new d) }
 {
     let (to, left, right) = (256 * d as usize, 256 * a as usize, 256 * b as usize);
     for k in 0..256 {
@@ -36,7 +36,7 @@ fn subtract_registers<G: GuardedRing>(ring: &G, words: &mut [G::Word], d: u8, a:
     requires left { flaw (G.element ring.now) (part words.old a) ≡ none }
     requires right { flaw (G.element ring.now) (part words.old b) ≡ none }
     ensures only { Only d words.old words.new }
-    ensures means { Meaning (model G.check G.redundancy G.root G.element G.meaning G.number ring.now) (combined (meanings (model G.check G.redundancy G.root G.element G.meaning G.number ring.now)) Minus (map (G.meaning ring.now) (part words.old a)) (map (G.meaning ring.now) (part words.old b))) (part words.new d) }
+    ensures means { Meaning (model G.check G.redundancy G.root G.element G.meaning G.number ring.now) (combined (meanings (model G.check G.redundancy G.root G.element G.meaning G.number ring.now)) minus (map (G.meaning ring.now) (part words.old a)) (map (G.meaning ring.now) (part words.old b))) (part words.new d) }
 {
     let (to, left, right) = (256 * d as usize, 256 * a as usize, 256 * b as usize);
     for k in 0..256 {
@@ -60,7 +60,7 @@ pub fn join_registers<G: GuardedRing>(
     requires left { flaw (G.element ring.now) (part words.old a) ≡ none }
     requires right { flaw (G.element ring.now) (part words.old b) ≡ none }
     ensures only { Only d words.old words.new }
-    ensures means { Meaning (model G.check G.redundancy G.root G.element G.meaning G.number ring.now) (combined (meanings (model G.check G.redundancy G.root G.element G.meaning G.number ring.now)) operation (map (G.meaning ring.now) (part words.old a)) (map (G.meaning ring.now) (part words.old b))) (part words.new d) }
+    ensures means { Meaning (model G.check G.redundancy G.root G.element G.meaning G.number ring.now) (combined (meanings (model G.check G.redundancy G.root G.element G.meaning G.number ring.now)) (operation_of operation) (map (G.meaning ring.now) (part words.old a)) (map (G.meaning ring.now) (part words.old b))) (part words.new d) }
 {
     match operation {
         Operation::Plus => add_registers(ring, words, d, a, b),

@@ -2,8 +2,7 @@ ghost use Rattle.std.specs.Prelude.{◌≡◌, ℕ, ◌+◌, ◌*◌, ◌<◌, m
 ghost use Rattle.std.proofs.Math.Option.{none};
 ghost use Rattle.rings.specs.Refusals.{flaw};
 ghost use Rattle.guarded.specs.Model.{guarded as model};
-ghost use Rattle.histories.specs.declared.call.Operation.TheVariants.{Times};
-ghost use Rattle.histories.specs.Calls.{part, meanings};
+ghost use Rattle.histories.specs.Calls.{part, meanings, times};
 ghost use Rattle.histories.specs.Serves.{Meaning, combined};
 ghost use Rattle.registers.specs.Rows.{Only};
 
@@ -25,7 +24,7 @@ pub(crate) fn multiply_registers<G: GuardedRing>(
     requires left { flaw (G.element ring.now) (part words.old a) ≡ none }
     requires right { flaw (G.element ring.now) (part words.old b) ≡ none }
     ensures only { Only d words.old words.new }
-    ensures means { Meaning (model G.check G.redundancy G.root G.element G.meaning G.number ring.now) (combined (meanings (model G.check G.redundancy G.root G.element G.meaning G.number ring.now)) Times (map (G.meaning ring.now) (part words.old a)) (map (G.meaning ring.now) (part words.old b))) (part words.new d) }
+    ensures means { Meaning (model G.check G.redundancy G.root G.element G.meaning G.number ring.now) (combined (meanings (model G.check G.redundancy G.root G.element G.meaning G.number ring.now)) times (map (G.meaning ring.now) (part words.old a)) (map (G.meaning ring.now) (part words.old b))) (part words.new d) }
 {
     let (to, left, right) = (256 * d as usize, 256 * a as usize, 256 * b as usize);
     for slot in 0..128 {

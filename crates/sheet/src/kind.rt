@@ -1,5 +1,5 @@
 ghost use Rattle.std.specs.Prelude.{◌≡◌, IfSome};
-ghost use Rattle.sheet.specs.Kinds.{letter as letter-of, kind_of, placed, least, most};
+ghost use Rattle.sheet.specs.Kinds.{letter as letter_of, kind_of, placed, least, most};
 
 use crate::limits::{COEFFICIENTS, MASKS, REDUNDANCY};
 use crate::tags;
@@ -26,7 +26,7 @@ impl Kind {
     /// The kind that a tag letter names.
     pub fn named(tag: u8) -> Option<Kind>
         ensures kind { result ≡ kind_of tag }
-        ensures marked { IfSome result (λ k. letter-of k ≡ tag) }
+        ensures marked { IfSome result (λ k. letter_of k ≡ tag) }
     {
         match tag {
             tags::REDUNDANT => Some(Kind::Redundant),

@@ -1,14 +1,14 @@
 ghost use Rattle.std.specs.Prelude.{◌≡◌, [], ◌∷◌, length};
 ghost use Rattle.rings.specs.PlainRing.{plain_modulus};
 ghost use Rattle.rings.specs.Refusals.{answer, ruling};
-ghost use Rattle.transform.specs.Checks.{sized as is-sized, ranged as is-ranged, transform_checks, guarded_checks, product_checks, mask_checks};
+ghost use Rattle.transform.specs.Checks.{sized as is_sized, ranged as is_ranged, transform_checks, guarded_checks, product_checks, mask_checks};
 
 use engine::masks::suit;
 use rings::{Plain, Refusal};
 
 // A slice that has to have 256 numbers.
 fn sized(slice: &[u16], position: u8) -> Result<(), Refusal>
-    ensures { answer result ≡ ruling (is-sized slice.now position ∷ []) }
+    ensures { answer result ≡ ruling (is_sized slice.now position ∷ []) }
 {
     if slice.len() == 256 {
         Ok(())
@@ -20,7 +20,7 @@ fn sized(slice: &[u16], position: u8) -> Result<(), Refusal>
 // Coefficients that have to be below 3329.
 fn in_range(f: &[u16]) -> Result<(), Refusal>
     requires { length f.now ≡ 256 }
-    ensures { answer result ≡ ruling (is-ranged f.now ∷ []) }
+    ensures { answer result ≡ ruling (is_ranged f.now ∷ []) }
 {
     for i in 0..256 {
         if f[i] >= 3329 {

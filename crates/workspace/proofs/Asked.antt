@@ -7,15 +7,12 @@ use Rattle.rings.specs.Refusals.{Check, first, Passes, flaw, below}
 use Rattle.rings.proofs.Flaws.{all_low}
 use Rattle.algebra.specs.Polynomials.{Polynomial}
 use Rattle.guarded.specs.Model.{Guarded, Lawful}
-use Rattle.histories.specs.declared.call.Kind.{Kind}
-use Rattle.histories.specs.declared.call.Operation.{Operation}
-use Rattle.histories.specs.declared.call.Operation.TheVariants.{Plus, Minus, Times}
 use Rattle.histories.specs.declared.register.Form.{Form}
 use Rattle.histories.specs.declared.register.Form.TheVariants.{Empty, Natural, Transformed, Rising, Falling}
 use Rattle.histories.specs.declared.register.Register.{Register}
 use Rattle.histories.specs.Operations.{Base, neg, Good, witness, transform_of}
 use Rattle.histories.specs.Forms.{in_form, whole}
-use Rattle.histories.specs.Calls.{State, part, Call, load, join, refresh, release, joins, rules, word_rules, checks}
+use Rattle.histories.specs.Calls.{State, part, Call, load, join, refresh, release, joins, rules, word_rules, checks, Kind, Operation, plus, minus, times}
 use Rattle.histories.specs.Serves.{or}
 use Rattle.histories.proofs.Basics.{no_some, passes}
 use Rattle.algebra.proofs.Lists.{listed_polynomial}
@@ -67,13 +64,13 @@ module _ (p t : ℕ) (S : ℕ → Register) (lent : ℕ) (kind : Kind) (r : ℕ)
   load_digits = q.1.1.1.1.1.1.0
 
 suits_whole : (o : Operation) (F : Form) → joins o F ≡ true → whole F ≡ true
-suits_whole Plus F h = h
-suits_whole Minus F h = h
-suits_whole Times Empty h = h
-suits_whole Times Natural h = refl
-suits_whole Times Transformed h = refl
-suits_whole Times (Rising s) h = h
-suits_whole Times (Falling s) h = h
+suits_whole plus F h = h
+suits_whole minus F h = h
+suits_whole times Empty h = h
+suits_whole times Natural h = refl
+suits_whole times Transformed h = refl
+suits_whole times (Rising s) h = h
+suits_whole times (Falling s) h = h
 
 -- what a join has passed: the registers exist
 module _ (p t : ℕ) (S : ℕ → Register) (lent : ℕ) (o : Operation) (d a b : ℕ) (q : Passes (rules p t S lent (join o d a b))) where

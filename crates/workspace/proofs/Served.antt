@@ -11,12 +11,10 @@ use Rattle.algebra.proofs.MaskLists.{mask_none}
 use Rattle.rings.specs.declared.refusal.Refusal.{Refusal}
 use Rattle.rings.specs.Refusals.{number_of, place_of}
 use Rattle.guarded.specs.Model.{Guarded, Lawful}
-use Rattle.histories.specs.declared.call.Kind.{Kind}
-use Rattle.histories.specs.declared.call.Operation.{Operation}
 use Rattle.histories.specs.declared.register.Form.{Form}
 use Rattle.histories.specs.Operations.{Base, neg, inverse_of_128, layer_under, witness}
 use Rattle.histories.specs.Forms.{done_of, form_after, in_form}
-use Rattle.histories.specs.Calls.{State, part, Call, load, turn, join, refresh, clear, release, form_of, ruling, plains, checks, meanings, empty_record}
+use Rattle.histories.specs.Calls.{State, part, Call, load, turn, join, refresh, clear, release, form_of, ruling, plains, checks, meanings, empty_record, Kind, Operation}
 use Rattle.histories.specs.Serves.{done, given, refused, put, loaded, joined, combined, Meaning, Numbered, verdict, Serves, accepts, refuses}
 use Rattle.histories.specs.Ledger.{Event, History, goes}
 use Rattle.histories.specs.Theorem.{Stands}

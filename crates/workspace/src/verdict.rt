@@ -1,11 +1,11 @@
 ghost use Rattle.std.specs.Prelude.{◌≡◌, length, IfOk};
 ghost use Rattle.guarded.specs.Model.{guarded as model};
-ghost use Rattle.histories.specs.declared.call.Kind.TheVariants.{Polynomial};
-ghost use Rattle.histories.specs.Calls.{part, load, turn, join, refresh, release};
+ghost use Rattle.histories.specs.Calls.{part, load, turn, join, refresh, release, polynomial};
 ghost use Rattle.histories.specs.Answers.{complaint};
 ghost use Rattle.records.specs.Tables.{state};
 ghost use Rattle.records.specs.Turns.{Turns};
 ghost use Rattle.workspace.specs.Verdicts.{judgement};
+ghost use Rattle.histories.specs.Kinds.{operation_of};
 
 use algebra::Direction;
 use guarded::GuardedRing;
@@ -29,7 +29,7 @@ pub(crate) fn may_load<G: GuardedRing>(
     c: u32,
     bytes: &[u8],
 ) -> Result<(), Refusal>
-    ensures { complaint result ≡ judgement (model G.check G.redundancy G.root G.element G.meaning G.number ring.now) (state table.now) (length words.now) (part words.now) (load Polynomial r xs.now c bytes.now) }
+    ensures { complaint result ≡ judgement (model G.check G.redundancy G.root G.element G.meaning G.number ring.now) (state table.now) (length words.now) (part words.now) (load polynomial r xs.now c bytes.now) }
 {
     check_load(
         table,
@@ -70,7 +70,7 @@ pub(crate) fn may_join<G: GuardedRing>(
     a: u8,
     b: u8,
 ) -> Result<(), Refusal>
-    ensures { complaint result ≡ judgement (model G.check G.redundancy G.root G.element G.meaning G.number ring.now) (state table.now) (length words.now) (part words.now) (join operation d a b) }
+    ensures { complaint result ≡ judgement (model G.check G.redundancy G.root G.element G.meaning G.number ring.now) (state table.now) (length words.now) (part words.now) (join (operation_of operation) d a b) }
 {
     check_join(table, operation, words.len(), d, a, b)?;
     test_register(ring, words, a)?;

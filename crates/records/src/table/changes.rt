@@ -3,8 +3,9 @@ ghost use Rattle.algebra.specs.Masks.{is_list_length};
 ghost use Rattle.histories.specs.Forms.{in_work, whole};
 ghost use Rattle.histories.specs.Calls.{empty_record, opened, form_of};
 ghost use Rattle.histories.specs.Serves.{loaded, joined};
-ghost use Rattle.records.specs.Rows.{rows, proper as is-proper, Alone};
+ghost use Rattle.records.specs.Rows.{rows, proper as is_proper, Alone};
 ghost use Rattle.records.specs.Tables.{state, with_register, advanced, carried};
+ghost use Rattle.histories.specs.Kinds.{kind_of, operation_of};
 
 use super::Table;
 use histories::{Form, Kind, Operation, Register};
@@ -18,7 +19,7 @@ const EMPTY: Register = Register {
 
 /// The form of what is loaded.
 pub fn loaded_form(kind: Kind) -> Form
-    ensures { result ≡ form_of kind }
+    ensures { result ≡ form_of (kind_of kind) }
 {
     match kind {
         Kind::Polynomial => Form::Natural,
@@ -29,7 +30,7 @@ pub fn loaded_form(kind: Kind) -> Form
 // The record of a result. The numbers of the witness are added, subtracted or multiplied modulo p.
 fn result(p: u32, operation: Operation, x: Register, y: Register) -> Register
     requires { 0 < p }
-    ensures { result ≡ joined p operation x y }
+    ensures { result ≡ joined p (operation_of operation) x y }
 {
     let n = p as u64;
     let level = x.level.max(y.level);
@@ -70,7 +71,7 @@ impl Table {
     /// Notes what was loaded into register r, with the number c of its witness.
     pub fn load(&mut self, r: u8, kind: Kind, c: u32)
         requires { r < 8 }
-        ensures { state self.new ≡ with_register r (loaded kind c) (state self.old) }
+        ensures { state self.new ≡ with_register r (loaded (kind_of kind) c) (state self.old) }
     {
         let record = &mut self.records[r as usize];
         record.form = loaded_form(kind);
@@ -84,7 +85,7 @@ impl Table {
         requires modulus { 0 < p }
         requires known { (d < 8) × ((a < 8) × (b < 8)) }
         requires entire { whole (rows self.old.records a).form ≡ true }
-        ensures { state self.new ≡ with_register d (joined p operation (rows self.old.records a) (rows self.old.records b)) (state self.old) }
+        ensures { state self.new ≡ with_register d (joined p (operation_of operation) (rows self.old.records a) (rows self.old.records b)) (state self.old) }
     {
         let x = self.records[a as usize];
         let y = self.records[b as usize];
@@ -102,7 +103,7 @@ impl Table {
     /// Notes that register r has had a layer, which left this form and took this list of masks.
     pub fn advance(&mut self, r: u8, next: Form, masks: &[u8])
         requires known { r < 8 }
-        requires fine { is-proper next ≡ true }
+        requires fine { is_proper next ≡ true }
         requires alone { Alone (rows self.old.records) r }
         requires few { length masks.now ≤ 128 }
         requires suited { in_work next ≡ true → is_list_length (length masks.now) ≡ true }

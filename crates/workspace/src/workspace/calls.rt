@@ -1,12 +1,11 @@
 ghost use Rattle.std.specs.Prelude.{◌≡◌, length};
 ghost use Rattle.algebra.specs.declared.Direction.TheVariants.{Forward, Inverse};
 ghost use Rattle.guarded.specs.Model.{guarded as model};
-ghost use Rattle.histories.specs.declared.call.Kind.TheVariants.{Polynomial, Transform};
-ghost use Rattle.histories.specs.declared.call.Operation.TheVariants.{Plus, Minus, Times};
-ghost use Rattle.histories.specs.Calls.{part, opened as all-empty, load as loading, turn as turning, join as joining, refresh as refreshing, clear as clearing};
+ghost use Rattle.histories.specs.Calls.{part, opened as all_empty, load as loading, turn as turning, join as joining, refresh as refreshing, clear as clearing, polynomial, transform, plus, minus, times};
 ghost use Rattle.histories.specs.Serves.{Serves};
 ghost use Rattle.histories.specs.Answers.{told};
 ghost use Rattle.records.specs.Tables.{state};
+ghost use Rattle.histories.specs.Kinds.{kind_of, operation_of};
 
 use super::Workspace;
 use crate::verdict::{may_join, may_load, may_refresh, may_turn};
@@ -24,7 +23,7 @@ impl<G: GuardedRing> Workspace<G> {
     /// Opens a workspace on a ring and takes the ring over. All registers are empty.
     pub fn open(ring: G) -> Workspace<G>
         ensures ring { result.ring ≡ ring }
-        ensures empty { state result.table ≡ all-empty }
+        ensures empty { state result.table ≡ all_empty }
     {
         Workspace {
             ring,
@@ -42,7 +41,7 @@ impl<G: GuardedRing> Workspace<G> {
         bytes: &[u8],
     ) -> Result<(), Refusal>
         ensures keeps { self.new.ring ≡ self.old.ring }
-        ensures serves { Serves (model G.check G.redundancy G.root G.element G.meaning G.number self.old.ring) (state self.old.table) (length words.old) (part words.old) (loading Polynomial r coefficients.now c bytes.now) (told result) (state self.new.table) (part words.new) }
+        ensures serves { Serves (model G.check G.redundancy G.root G.element G.meaning G.number self.old.ring) (state self.old.table) (length words.old) (part words.old) (loading polynomial r coefficients.now c bytes.now) (told result) (state self.new.table) (part words.new) }
     {
         self.load_kind(Kind::Polynomial, words, r, coefficients, c, bytes)
     }
@@ -57,7 +56,7 @@ impl<G: GuardedRing> Workspace<G> {
         bytes: &[u8],
     ) -> Result<(), Refusal>
         ensures keeps { self.new.ring ≡ self.old.ring }
-        ensures serves { Serves (model G.check G.redundancy G.root G.element G.meaning G.number self.old.ring) (state self.old.table) (length words.old) (part words.old) (loading Transform r values.now c bytes.now) (told result) (state self.new.table) (part words.new) }
+        ensures serves { Serves (model G.check G.redundancy G.root G.element G.meaning G.number self.old.ring) (state self.old.table) (length words.old) (part words.old) (loading transform r values.now c bytes.now) (told result) (state self.new.table) (part words.new) }
     {
         self.load_kind(Kind::Transform, words, r, values, c, bytes)
     }
@@ -72,7 +71,7 @@ impl<G: GuardedRing> Workspace<G> {
         bytes: &[u8],
     ) -> Result<(), Refusal>
         ensures keeps { self.new.ring ≡ self.old.ring }
-        ensures serves { Serves (model G.check G.redundancy G.root G.element G.meaning G.number self.old.ring) (state self.old.table) (length words.old) (part words.old) (loading kind r xs.now c bytes.now) (told result) (state self.new.table) (part words.new) }
+        ensures serves { Serves (model G.check G.redundancy G.root G.element G.meaning G.number self.old.ring) (state self.old.table) (length words.old) (part words.old) (loading (kind_of kind) r xs.now c bytes.now) (told result) (state self.new.table) (part words.new) }
     {
         may_load(&self.ring, &self.table, words, r, xs, c, bytes)?;
         let mut checks = [0u32; 256];
@@ -118,7 +117,7 @@ impl<G: GuardedRing> Workspace<G> {
     /// Puts the sum of the registers a and b into d, which may be one of them.
     pub fn add(&mut self, words: &mut [G::Word], d: u8, a: u8, b: u8) -> Result<(), Refusal>
         ensures keeps { self.new.ring ≡ self.old.ring }
-        ensures serves { Serves (model G.check G.redundancy G.root G.element G.meaning G.number self.old.ring) (state self.old.table) (length words.old) (part words.old) (joining Plus d a b) (told result) (state self.new.table) (part words.new) }
+        ensures serves { Serves (model G.check G.redundancy G.root G.element G.meaning G.number self.old.ring) (state self.old.table) (length words.old) (part words.old) (joining plus d a b) (told result) (state self.new.table) (part words.new) }
     {
         self.join(Operation::Plus, words, d, a, b)
     }
@@ -126,7 +125,7 @@ impl<G: GuardedRing> Workspace<G> {
     /// Puts the difference of the registers a and b into d, which may be one of them.
     pub fn subtract(&mut self, words: &mut [G::Word], d: u8, a: u8, b: u8) -> Result<(), Refusal>
         ensures keeps { self.new.ring ≡ self.old.ring }
-        ensures serves { Serves (model G.check G.redundancy G.root G.element G.meaning G.number self.old.ring) (state self.old.table) (length words.old) (part words.old) (joining Minus d a b) (told result) (state self.new.table) (part words.new) }
+        ensures serves { Serves (model G.check G.redundancy G.root G.element G.meaning G.number self.old.ring) (state self.old.table) (length words.old) (part words.old) (joining minus d a b) (told result) (state self.new.table) (part words.new) }
     {
         self.join(Operation::Minus, words, d, a, b)
     }
@@ -134,7 +133,7 @@ impl<G: GuardedRing> Workspace<G> {
     /// Puts the product of the transforms in a and b into d, which may be one of them.
     pub fn multiply(&mut self, words: &mut [G::Word], d: u8, a: u8, b: u8) -> Result<(), Refusal>
         ensures keeps { self.new.ring ≡ self.old.ring }
-        ensures serves { Serves (model G.check G.redundancy G.root G.element G.meaning G.number self.old.ring) (state self.old.table) (length words.old) (part words.old) (joining Times d a b) (told result) (state self.new.table) (part words.new) }
+        ensures serves { Serves (model G.check G.redundancy G.root G.element G.meaning G.number self.old.ring) (state self.old.table) (length words.old) (part words.old) (joining times d a b) (told result) (state self.new.table) (part words.new) }
     {
         self.join(Operation::Times, words, d, a, b)
     }
@@ -148,7 +147,7 @@ impl<G: GuardedRing> Workspace<G> {
         b: u8,
     ) -> Result<(), Refusal>
         ensures keeps { self.new.ring ≡ self.old.ring }
-        ensures serves { Serves (model G.check G.redundancy G.root G.element G.meaning G.number self.old.ring) (state self.old.table) (length words.old) (part words.old) (joining operation d a b) (told result) (state self.new.table) (part words.new) }
+        ensures serves { Serves (model G.check G.redundancy G.root G.element G.meaning G.number self.old.ring) (state self.old.table) (length words.old) (part words.old) (joining (operation_of operation) d a b) (told result) (state self.new.table) (part words.new) }
     {
         may_join(&self.ring, &self.table, words, operation, d, a, b)?;
         join_registers(&self.ring, operation, words, d, a, b);

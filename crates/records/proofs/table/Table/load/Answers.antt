@@ -2,6 +2,7 @@ use Rattle.std.proofs.Common.{ap, ◌∙◌, arith}
 use Rattle.std.proofs.lemmas.List.{length-set}
 use Rattle.histories.specs.Forms.{in_work}
 use Rattle.records.proofs.Changes.{idle_kept, loaded_idle}
+use Rattle.histories.specs.Kinds.{kind_of}
 use Rattle.records.proofs.table.Table.load.Goals as goal
 
 pub invariant_of-self : goal.invariant_of-self
@@ -9,5 +10,5 @@ invariant_of-self c =
     let s = c.args.self.now in
     let k =
     idle_kept s.records c.args.r _ s.count (omega arith)
-    (record { proper = s.proper; single = s.single; listed = s.listed }) (ap in_work c.loaded_form-record.ensures ∙ loaded_idle c.args.kind) in
+    (record { proper = s.proper; single = s.single; listed = s.listed }) (ap in_work c.loaded_form-record.ensures ∙ loaded_idle (kind_of c.args.kind)) in
     (k.proper, (k.single, (k.listed, (s.short, (length-set s.records c.args.r _ ∙ s.eight, (s.room, tt))))))

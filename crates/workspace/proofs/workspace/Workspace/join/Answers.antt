@@ -5,6 +5,7 @@ use Rattle.histories.specs.Calls.{join, part}
 use Rattle.records.specs.Tables.{state}
 use Rattle.workspace.proofs.Asked.{ruled, sound, lent_all, join_known, join_whole}
 use Rattle.workspace.proofs.Served.{refuses_at, joins_on}
+use Rattle.histories.specs.Kinds.{operation_of}
 use Rattle.workspace.proofs.workspace.Workspace.join.Goals as goal
 
 pub returns-in_err-may_join : goal.returns-in_err-may_join
@@ -19,13 +20,13 @@ join_registers-requires g c =
     let ring = c.args.self.now.ring in
     let model = guarded h.check h.redundancy r.root r.element r.meaning h.number ring in
     let s = state c.args.self.now.table in
-    let call = join c.args.operation c.args.d c.args.a c.args.b in
+    let call = join (operation_of c.args.operation) c.args.d c.args.a c.args.b in
     let ok = c.in_ok-may_join.ensures in
     let q = ruled model s _ (part c.args.words.now) call ok in
     let words = sound model s _ (part c.args.words.now) call ok in
     record {
       size = lent_all model.p model.t s.registers _ call q;
-      known = join_known model.p model.t s.registers _ c.args.operation c.args.d c.args.a c.args.b q;
+      known = join_known model.p model.t s.registers _ (operation_of c.args.operation) c.args.d c.args.a c.args.b q;
       left = words.0;
       right = words.1.0;
     }
@@ -37,13 +38,13 @@ join-requires g c =
     let ring = c.args.self.now.ring in
     let model = guarded h.check h.redundancy r.root r.element r.meaning h.number ring in
     let s = state c.args.self.now.table in
-    let call = join c.args.operation c.args.d c.args.a c.args.b in
+    let call = join (operation_of c.args.operation) c.args.d c.args.a c.args.b in
     let q = ruled model s _ (part c.args.words.now) call c.in_ok-may_join.ensures in
     let law = g.met.G.GuardedRing.lawful ring in
     record {
       modulus = omega (arith, law.above, c.check_modulus-p.ensures);
-      known = join_known model.p model.t s.registers _ c.args.operation c.args.d c.args.a c.args.b q;
-      entire = join_whole model.p model.t s.registers _ c.args.operation c.args.d c.args.a c.args.b q;
+      known = join_known model.p model.t s.registers _ (operation_of c.args.operation) c.args.d c.args.a c.args.b q;
+      entire = join_whole model.p model.t s.registers _ (operation_of c.args.operation) c.args.d c.args.a c.args.b q;
     }
 
 pub returns : goal.returns

@@ -1,14 +1,14 @@
 use Rattle.std.proofs.Common.{◌≡◌, refl, ap, ◌∙◌, arith}
 use Rattle.std.proofs.lemmas.Result.{err_from_is_err_and}
 use Rattle.guarded.specs.Model.{guarded}
-use Rattle.histories.specs.declared.call.Kind.TheVariants.{Polynomial}
 use Rattle.histories.specs.declared.register.Form.{Form}
 use Rattle.histories.specs.Operations.{witness}
 use Rattle.histories.specs.Forms.{in_form}
-use Rattle.histories.specs.Calls.{load, part, checks}
+use Rattle.histories.specs.Calls.{load, part, checks, polynomial}
 use Rattle.records.specs.Tables.{state}
 use Rattle.workspace.proofs.Asked.{ruled, lent_all, load_sizes, load_known, load_range, load_digits, due_low}
 use Rattle.workspace.proofs.Served.{refuses_at, loads}
+use Rattle.histories.specs.Kinds.{kind_of}
 use Rattle.workspace.proofs.workspace.Workspace.load_kind.Goals as goal
 
 pub returns-in_err-may_load : goal.returns-in_err-may_load
@@ -23,15 +23,15 @@ load_register-requires g c =
     let ring = c.args.self.now.ring in
     let model = guarded h.check h.redundancy r.root r.element r.meaning h.number ring in
     let s = state c.args.self.now.table in
-    let call = load Polynomial c.args.r c.args.xs.now c.args.c c.args.bytes.now in
+    let call = load polynomial c.args.r c.args.xs.now c.args.c c.args.bytes.now in
     let q = ruled model s _ (part c.args.words.now) call c.in_ok-may_load.ensures in
-    let sizes = load_sizes model.p model.t s.registers _ Polynomial c.args.r c.args.xs.now c.args.c c.args.bytes.now q in
+    let sizes = load_sizes model.p model.t s.registers _ polynomial c.args.r c.args.xs.now c.args.c c.args.bytes.now q in
     record {
-      room = (lent_all model.p model.t s.registers _ call q, load_known model.p model.t s.registers _ Polynomial c.args.r c.args.xs.now c.args.c c.args.bytes.now q);
+      room = (lent_all model.p model.t s.registers _ call q, load_known model.p model.t s.registers _ polynomial c.args.r c.args.xs.now c.args.c c.args.bytes.now q);
       sizes = (sizes.0, (omega arith, sizes.1));
-      range = load_range model.p model.t s.registers _ Polynomial c.args.r c.args.xs.now c.args.c c.args.bytes.now q;
+      range = load_range model.p model.t s.registers _ polynomial c.args.r c.args.xs.now c.args.c c.args.bytes.now q;
       checks = due_low model (g.met.G.GuardedRing.lawful ring) _ _ _ _ c.residues_due.ensures;
-      digits = load_digits model.p model.t s.registers _ Polynomial c.args.r c.args.xs.now c.args.c c.args.bytes.now q;
+      digits = load_digits model.p model.t s.registers _ polynomial c.args.r c.args.xs.now c.args.c c.args.bytes.now q;
     }
 
 pub returns : goal.returns
@@ -43,7 +43,7 @@ returns g c =
     record {
       keeps = refl;
       serves =
-          loads model _ _ _ _ c.args.kind _ _ _ _ _ c.in_ok-may_load.ensures c.load.ensures c.load_register.ensures.only
+          loads model _ _ _ _ (kind_of c.args.kind) _ _ _ _ _ c.in_ok-may_load.ensures c.load.ensures c.load_register.ensures.only
           (c.residues_due.ensures ∙ ap (λ (F : Form). in_form (checks model) F (witness (checks model) c.args.c 0)) c.loaded_form.ensures)
           c.load_register.ensures.holds;
     }
