@@ -13,7 +13,14 @@ invariant_of-self c =
     layer_kept s.records c.args.r (with_form c.args.next (rows s.records c.args.r)) (length c.args.masks.now) (omega arith)
     s.proper c.requires.alone c.requires.fine c.requires.suited in
     let room : length (put_mid 0 (length c.args.masks.now - 0) s.store c.copy_from_slice.new.self) ≡ 128 = simp (length-append, length-drop) (omega arith) in
-    (k.proper, (k.single, (k.listed, (c.requires.few, (length-set s.records c.args.r _ ∙ s.eight, (room, tt))))))
+    record {
+      proper = k.proper;
+      single = k.single;
+      listed = k.listed;
+      short = c.requires.few;
+      eight = length-set s.records c.args.r _ ∙ s.eight;
+      room = room;
+    }
 
 pub returns : goal.returns
 returns c =

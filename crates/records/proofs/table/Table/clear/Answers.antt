@@ -7,4 +7,11 @@ pub invariant_of-self : goal.invariant_of-self
 invariant_of-self c =
     let s = c.args.self.now in
     let k = idle_kept s.records c.args.r _ s.count (omega arith) (record { proper = s.proper; single = s.single; listed = s.listed }) refl in
-    (k.proper, (k.single, (k.listed, (s.short, (length-set s.records c.args.r _ ∙ s.eight, (s.room, tt))))))
+    record {
+      proper = k.proper;
+      single = k.single;
+      listed = k.listed;
+      short = s.short;
+      eight = length-set s.records c.args.r _ ∙ s.eight;
+      room = s.room;
+    }

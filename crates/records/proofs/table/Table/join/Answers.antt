@@ -14,7 +14,14 @@ invariant_of-self c =
     idle_kept s.records c.args.d c.result.result s.count (omega arith)
     (record { proper = s.proper; single = s.single; listed = s.listed })
     (ap (λ (x : Register). in_work x.form) c.result.ensures ∙ whole_idle (rows s.records c.args.a).form c.requires.entire) in
-    (k.proper, (k.single, (k.listed, (s.short, (length-set s.records c.args.d _ ∙ s.eight, (s.room, tt))))))
+    record {
+      proper = k.proper;
+      single = k.single;
+      listed = k.listed;
+      short = s.short;
+      eight = length-set s.records c.args.d _ ∙ s.eight;
+      room = s.room;
+    }
 
 pub returns : goal.returns
 returns c = changed c.args.self.now.records c.args.d _ _ _ (omega arith) c.result.ensures

@@ -11,4 +11,11 @@ invariant_of-self c =
     let k =
     idle_kept s.records c.args.r _ s.count (omega arith)
     (record { proper = s.proper; single = s.single; listed = s.listed }) (ap in_work c.loaded_form-record.ensures ∙ loaded_idle (kind_of c.args.kind)) in
-    (k.proper, (k.single, (k.listed, (s.short, (length-set s.records c.args.r _ ∙ s.eight, (s.room, tt))))))
+    record {
+      proper = k.proper;
+      single = k.single;
+      listed = k.listed;
+      short = s.short;
+      eight = length-set s.records c.args.r _ ∙ s.eight;
+      room = s.room;
+    }
