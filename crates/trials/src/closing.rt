@@ -32,13 +32,13 @@ fn refresh_renumbers_the_words_and_clear_leaves_them(rt: HostRuntime) -> Result<
 }
 
 #[test]
-fn closing_wipes_the_words_however_many() -> Result<(), Fail> {
+fn closing_wipes_the_words_however_many(rt: HostRuntime) -> Result<(), Fail> {
     let mut words = [9u32; 2048];
     Workspace::open(Redundant::approve(7681, 3)?).close(&mut words);
-    check(words == [0; 2048])?;
+    assert!(rt; words == [0; 2048]);
     let mut five = [4294967295u32; 5];
     Workspace::open(Redundant::approve(12289, 1)?).close(&mut five);
-    check(five == [0; 5])?;
+    assert!(rt; five == [0; 5]);
     let nine = Residues {
         coefficient: 9,
         check: 65535,
@@ -49,8 +49,9 @@ fn closing_wipes_the_words_however_many() -> Result<(), Fail> {
     };
     let mut pairs = [nine; 2048];
     Workspace::open(Pair::approve(7681)?).close(&mut pairs);
-    check(pairs == [zero; 2048])?;
+    assert!(rt; pairs == [zero; 2048]);
     let mut long = [nine; 2049];
     Workspace::open(Pair::approve(12289)?).close(&mut long);
-    check(long == [zero; 2049])
+    assert!(rt; long == [zero; 2049]);
+    Ok(())
 }
