@@ -1,28 +1,26 @@
-"""Runs the program `decrypt` on fresh examples of both sizes, with fresh blinding.
+"""Runs the program `decrypt_blinded` on fresh examples of both sizes, with fresh blinding.
 
-    python3 tests/decrypt_random.py [PROGRAM] [--count NUMBER]
+    python3 tests/decrypt_blinded_random.py [PROGRAM] [--count NUMBER]
 
-Each example comes from a new key and a new ciphertext of OpenSSL.  The
-message that the program prints is judged by OpenSSL's shared secret: FIPS
-203, Algorithm 17, makes that secret from the message and the public key.
+Each example comes from a new key and a new ciphertext of OpenSSL, as in
+decrypt_random.py, and both messages that the program prints are judged by
+OpenSSL's shared secret.
 
 Where `cryptography` has no ML-KEM, only the stored example is run.
 """
 
 import argparse
-import os
 import pathlib
 import re
 import secrets
-import tempfile
 
 import fips203
-from make_decrypt_blinded_example import draw_input, make_example, openssl_has_ml_kem, program_output
+from decrypt_random import at_least_one, keep, print_loud_note, run_stored_example
+from make_decrypt_blinded_example import draw_input, program_output
+from make_decrypt_example import make_example, openssl_has_ml_kem
 from run_program import ROOT, built, run_program
 
-STORED_INPUT = ROOT / "crates" / "decrypt_blinded" / "stdin"
-STORED_OUTPUT = ROOT / "crates" / "decrypt_blinded" / "stdout"
-
+CRATE = ROOT / "crates" / "decrypt_blinded"
 
 # The largest approved redundancy number of each check modulus.
 MOST_REDUNDANCY = {7681: 167, 12289: 103}
@@ -46,14 +44,6 @@ def draw_redundancy(p):
     return 1 + 2 * secrets.randbelow((MOST_REDUNDANCY[p] + 1) // 2)
 
 
-def keep(text):
-    """Saves a failing input, since the next run draws another key."""
-    handle, name = tempfile.mkstemp(prefix="decrypt_failed_", suffix=".stdin")
-    with os.fdopen(handle, "w", encoding="ascii") as file:
-        file.write(text)
-    return name
-
-
 def run_fresh_examples(program, count):
     for k, params in sorted(fips203.PARAMETER_SETS.items()):
         for number in range(1, count + 1):
@@ -71,32 +61,8 @@ def run_fresh_examples(program, count):
         print(f"{params.name}: {count} fresh examples on two rings, each message gives OpenSSL's shared secret")
 
 
-def run_stored_example(program):
-    text = STORED_INPUT.read_text(encoding="ascii")
-    expected = STORED_OUTPUT.read_text(encoding="ascii")
-    output, trouble = run_program(program, text)
-    if trouble is not None or output != expected:
-        raise SystemExit(f"{trouble or 'the stored example differs'}\n"
-                         f"expected:\n{expected}\nprinted:\n{output}")
-    print("the stored example agrees")
-
-
-def print_loud_note():
-    print("*" * 72)
-    print("NOTE: this `cryptography` has no ML-KEM.  NO FRESH EXAMPLE IS TESTED.")
-    print("Only the stored example is run.")
-    print("*" * 72)
-
-
-def at_least_one(text):
-    count = int(text)
-    if count < 1:
-        raise argparse.ArgumentTypeError("must be at least 1")
-    return count
-
-
 def read_arguments():
-    parser = argparse.ArgumentParser(description="run decrypt on fresh ML-KEM examples")
+    parser = argparse.ArgumentParser(description="run decrypt_blinded on fresh ML-KEM examples")
     parser.add_argument("program", nargs="?", type=pathlib.Path, default=built("decrypt_blinded"))
     parser.add_argument("--count", type=at_least_one, default=5,
                         help="how many examples of each size")
@@ -109,7 +75,7 @@ def main():
         run_fresh_examples(arguments.program, arguments.count)
     else:
         print_loud_note()
-        run_stored_example(arguments.program)
+        run_stored_example(arguments.program, CRATE)
 
 
 if __name__ == "__main__":

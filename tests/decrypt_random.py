@@ -20,8 +20,7 @@ from make_decrypt_example import (lines_before_message, make_example, openssl_ha
                                   program_input)
 from run_program import ROOT, built, run_program
 
-STORED_INPUT = ROOT / "crates" / "decrypt" / "stdin"
-STORED_OUTPUT = ROOT / "crates" / "decrypt" / "stdout"
+CRATE = ROOT / "crates" / "decrypt"
 
 
 def complaint_about(output, example):
@@ -64,9 +63,9 @@ def run_fresh_examples(program, count):
         print(f"{params.name}: {count} fresh examples, each message gives OpenSSL's shared secret")
 
 
-def run_stored_example(program):
-    text = STORED_INPUT.read_text(encoding="ascii")
-    expected = STORED_OUTPUT.read_text(encoding="ascii")
+def run_stored_example(program, crate):
+    text = (crate / "stdin").read_text(encoding="ascii")
+    expected = (crate / "stdout").read_text(encoding="ascii")
     output, trouble = run_program(program, text)
     if trouble is not None or output != expected:
         raise SystemExit(f"{trouble or 'the stored example differs'}\n"
@@ -102,7 +101,7 @@ def main():
         run_fresh_examples(arguments.program, arguments.count)
     else:
         print_loud_note()
-        run_stored_example(arguments.program)
+        run_stored_example(arguments.program, CRATE)
 
 
 if __name__ == "__main__":

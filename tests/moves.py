@@ -11,27 +11,26 @@ the three, a line of it is changed so that a value is used after it is gone;
 the compiler must say so and name the value.  Since the library is proved as
 it stands, the change alone is what is refused.
 
-The library is written to a temporary folder and checked by `rt check` against
-the built crates of this repository, so `rt check` or `rt ci` has to be run
-before.  Exit status 1 if any of the answers is another.
+The crates of this repository are copied to a temporary folder, where the
+library is one crate more, and `rt check` runs there.  Exit status 1 if any of
+the answers is another.
 """
 
 import pathlib
+import shutil
 import subprocess
 import sys
 import tempfile
 
-from run_program import ROOT, SECONDS, readable
+from run_program import ROOT, readable
 
-BUILT = ROOT / "target" / "rlib"
-
-# The crates whose names the library below writes; the others are found by -L.
-NAMED = ["guarded", "rings", "workspace"]
+# Far above what a check needs, also where the crates below are proved first.
+SECONDS = 3000
 
 LIBRARY = """\
+#![tactic(auto)]
+
 use guarded::Redundant;
-use guarded::redundant::arithmetic::RedundantGuarded;
-use guarded::redundant::arithmetic::RedundantRing;
 use rings::Refusal;
 use workspace::Workspace;
 
@@ -71,22 +70,27 @@ CHANGES = [
 ]
 
 
-def checked(text):
+def copied(folder):
+    """The crates of this repository in that folder, with one more for the library: the folder of that one."""
+    shutil.copytree(ROOT / "crates", folder / "crates", ignore=shutil.ignore_patterns("out"))
+    crate = folder / "crates" / "moves"
+    (crate / "src").mkdir(parents=True)
+    listed = (ROOT / "crates.txt").read_text(encoding="ascii")
+    (folder / "crates.txt").write_text(listed + "moves: guarded rings workspace\n", encoding="ascii")
+    return crate
+
+
+def checked(crate, text):
     """The status and the output of a check of the library with this text."""
-    with tempfile.TemporaryDirectory() as folder:
-        crate = pathlib.Path(folder) / "moves"
-        (crate / "src").mkdir(parents=True)
-        (crate / "src" / "lib.rt").write_text(text, encoding="ascii")
-        command = ["rt", "check", str(crate), "-L", f"dependency={BUILT}"]
-        for name in NAMED:
-            command += ["--extern", f"{name}={BUILT / name}.rlib"]
-        try:
-            done = subprocess.run(command, stdout=subprocess.PIPE, stderr=subprocess.STDOUT, timeout=SECONDS)
-        except OSError as error:
-            raise SystemExit(f"cannot run rt: {error.strerror}")
-        except subprocess.TimeoutExpired:
-            raise SystemExit(f"rt check did not end within {SECONDS} seconds")
-        return done.returncode, readable(done.stdout)
+    (crate / "src" / "lib.rt").write_text(text, encoding="ascii")
+    try:
+        done = subprocess.run(["rt", "check"], cwd=crate, stdout=subprocess.PIPE,
+                              stderr=subprocess.STDOUT, timeout=SECONDS)
+    except OSError as error:
+        raise SystemExit(f"cannot run rt: {error.strerror}")
+    except subprocess.TimeoutExpired:
+        raise SystemExit(f"rt check did not end within {SECONDS} seconds")
+    return done.returncode, readable(done.stdout)
 
 
 def changed(old, new):
@@ -101,16 +105,16 @@ def report(name, holds, wanted, output):
 
 
 def main():
-    if not (BUILT / "workspace.rlib").is_dir():
-        raise SystemExit("the crate workspace is not built: run rt check first")
-    status, output = checked(LIBRARY)
-    all_hold = report("each ring and each workspace used once",
-                      status == 0 and "logic=proved functions=3 " in output, "proved", output)
-    for name, old, new, value in CHANGES:
-        status, output = checked(changed(old, new))
-        # the compiler says 'use of' or 'borrow of', by what is done with the value
-        refused = status != 0 and f"of moved value: `{value}`" in output
-        all_hold &= report(name, refused, f"refused, for `{value}` is gone", output)
+    with tempfile.TemporaryDirectory() as folder:
+        crate = copied(pathlib.Path(folder))
+        status, output = checked(crate, LIBRARY)
+        all_hold = report("each ring and each workspace used once",
+                          status == 0 and "logic=proved functions=3 " in output, "proved", output)
+        for name, old, new, value in CHANGES:
+            status, output = checked(crate, changed(old, new))
+            # the compiler says 'use of' or 'borrow of', by what is done with the value
+            refused = status != 0 and f"of moved value: `{value}`" in output
+            all_hold &= report(name, refused, f"refused, for `{value}` is gone", output)
     return 0 if all_hold else 1
 
 

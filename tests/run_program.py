@@ -10,8 +10,8 @@ SECONDS = 600
 
 
 def built(name):
-    """Where the build puts the program of that name."""
-    return ROOT / "target" / "bin" / name
+    """Where `rt` puts the program of that name."""
+    return ROOT / "crates" / name / "out" / name
 
 
 def readable(data):
