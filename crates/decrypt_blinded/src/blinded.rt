@@ -138,7 +138,7 @@ pub fn decrypt<G: GuardedRing>(
     requires rank { (1 ≤ rank) × (rank ≤ 4) }
     requires sizes { (length words.old ≡ 2048) × ((length u.now ≡ 256 * rank) × ((length s.now ≡ 256 * rank) × (length random.now ≡ 612 * rank + 354))) }
     ensures keeps { space.new.ring ≡ space.old.ring }
-    ensures right { OnOk result (((L : ℕ → Held) → Tracked (model G.check G.redundancy G.root G.element G.meaning G.number space.old.ring) (state space.old.table) words.old L → Decrypted rank u.now s.now v.now out.new)) }
+    ensures right { OnOk result ((L : ℕ → Held) → Tracked (model G.check G.redundancy G.root G.element G.meaning G.number space.old.ring) (state space.old.table) words.old L → Decrypted rank u.now s.now v.now out.new) }
 {
     let used = 612 * rank;
     sum_products(space, words, rank, u, s, &random[0..used])?;

@@ -3,7 +3,7 @@ ghost use Rattle.rings.specs.declared.refusal.Refusal.TheVariants.{Modulus};
 ghost use Rattle.rings.specs.Refusals.{answer, ruling, test as checked};
 ghost use Rattle.guarded.specs.Moduli.{is_check};
 ghost use Rattle.guarded.specs.PairRing.{pair_check, pair_redundancy, pair_modulus, pair_root, pair_element, pair_meaning, pair_number};
-ghost use Rattle.std.proofs.Common.{rules, arith};
+ghost use Rattle.std.proofs.Common.{rules};
 ghost use Rattle.guarded.specs.PairLawful.{pair_lawful};
 
 use super::{Pair, Residues};
@@ -39,11 +39,11 @@ impl Ring for Pair {
 
     ghost meaning = { pair_meaning };
 
-    ghost odd = { first_of (Prim.search rules, Prim.grind (arith, Self.row.coded.inj)) };
+    ghost odd = { Prim.search rules };
 
-    ghost halfway = { first_of (Prim.search rules, Prim.grind (arith, Self.row.coded.inj)) };
+    ghost halfway = { Prim.search rules };
 
-    ghost below = { first_of (Prim.search rules, Prim.grind (arith, Self.row.coded.inj)) };
+    ghost below = { Prim.search rules };
 
     fn sum(&self, a: Residues, b: Residues) -> Residues {
         Residues {
@@ -99,7 +99,7 @@ impl GuardedRing for Pair {
 
     ghost number = { pair_number };
 
-    ghost joint = { first_of (Prim.search rules, Prim.grind (arith, Self.row.coded.inj)) };
+    ghost joint = { Prim.search rules };
 
     ghost lawful = { λ s. pair_lawful s };
 

@@ -3,7 +3,7 @@ ghost use Rattle.rings.specs.declared.refusal.Refusal.TheVariants.{Modulus, Redu
 ghost use Rattle.rings.specs.Refusals.{answer, ruling, test as checked};
 ghost use Rattle.guarded.specs.Moduli.{is_check, is_redundancy, most_redundancy};
 ghost use Rattle.guarded.specs.RedundantRing.{redundant_check, redundant_redundancy, redundant_modulus, redundant_words, redundant_root, redundant_element, redundant_meaning, redundant_number};
-ghost use Rattle.std.proofs.Common.{rules, arith};
+ghost use Rattle.std.proofs.Common.{rules};
 ghost use Rattle.guarded.specs.RedundantLawful.{redundant_lawful};
 
 use super::Redundant;
@@ -73,11 +73,11 @@ impl Ring for Redundant {
 
     ghost meaning = { redundant_meaning };
 
-    ghost odd = { first_of (Prim.search rules, Prim.grind (arith, Self.row.coded.inj)) };
+    ghost odd = { Prim.search rules };
 
-    ghost halfway = { first_of (Prim.search rules, Prim.grind (arith, Self.row.coded.inj)) };
+    ghost halfway = { Prim.search rules };
 
-    ghost below = { first_of (Prim.search rules, Prim.grind (arith, Self.row.coded.inj)) };
+    ghost below = { Prim.search rules };
 
     fn sum(&self, a: u32, b: u32) -> u32
         requires left { redundant_element self.now a ≡ true }
@@ -138,7 +138,7 @@ impl GuardedRing for Redundant {
 
     ghost number = { redundant_number };
 
-    ghost joint = { first_of (Prim.search rules, Prim.grind (arith, Self.row.coded.inj)) };
+    ghost joint = { Prim.search rules };
 
     ghost lawful = { λ s. redundant_lawful s.p s.t s.known s.some s.most };
 

@@ -3,7 +3,7 @@ ghost use Rattle.rings.specs.declared.refusal.Refusal.TheVariants.{Modulus};
 ghost use Rattle.rings.specs.Refusals.{answer, ruling, test as checked};
 ghost use Rattle.rings.specs.Moduli.{is_plain};
 ghost use Rattle.rings.specs.PlainRing.{plain_modulus, plain_ring_root, plain_element, plain_meaning};
-ghost use Rattle.std.proofs.Common.{rules, arith};
+ghost use Rattle.std.proofs.Common.{rules};
 
 use super::Plain;
 use crate::reduction::reduce;
@@ -55,11 +55,11 @@ impl Ring for Plain {
 
     ghost meaning = { plain_meaning };
 
-    ghost odd = { first_of (Prim.search rules, Prim.grind (arith, Self.row.coded.inj)) };
+    ghost odd = { Prim.search rules };
 
-    ghost halfway = { first_of (Prim.search rules, Prim.grind (arith, Self.row.coded.inj)) };
+    ghost halfway = { Prim.search rules };
 
-    ghost below = { first_of (Prim.search rules, Prim.grind (arith, Self.row.coded.inj)) };
+    ghost below = { Prim.search rules };
 
     fn sum(&self, a: u16, b: u16) -> u16 {
         let gap = self.modulus - b;
