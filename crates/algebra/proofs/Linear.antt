@@ -1,7 +1,7 @@
 -- The layers respect equality modulo suc neg, and a factor goes through them.
 use Rattle.std.proofs.Common.{◌≡◌, ℕ, zero, suc, ◌+◌, ◌-◌, ◌*◌, ◌^◌, ◌<◌, ◌≤◌, arith, pow_pos}
 use Rattle.algebra.specs.Congruence.{Same}
-use Rattle.algebra.specs.Layers.{forward, inverse, ForwardPairs, InversePairs, layers, inv_layers, ntt}
+use Rattle.algebra.specs.Layers.{ForwardPairs, InversePairs, layers, inv_layers, ntt}
 use Rattle.algebra.proofs.Modular.{same_of, same_sym, ◌⨾◌, same_add, same_mul_left}
 use Rattle.algebra.proofs.Layers.{in_halves, forward_is, inverse_is}
 use Rattle.algebra.proofs.Inverse.{at_low, at_high, whole}

@@ -1,12 +1,12 @@
 -- From functions to lists.
-use Rattle.std.proofs.Common.{◌≡◌, ℕ, suc, ◌+◌, ◌*◌, ◌/◌, ◌%◌, ◌^◌, ◌<◌, ◌≤◌, List, sym, ap, ◌∙◌, mod-lt, mod-eq_of_lt, arith}
+use Rattle.std.proofs.Common.{◌≡◌, ℕ, suc, ◌+◌, ◌*◌, ◌%◌, ◌^◌, ◌<◌, ◌≤◌, List, sym, ap, ◌∙◌, mod-lt, mod-eq_of_lt, arith}
 use native.Mathlib.Nat.{mod-mod}
 use lib.Arith.{digits_div, digits_mod, digits_lt}
 use Rattle.std.proofs.lemmas.List.FromFn.{get_or-map-range_with_len, length-map-range_with_len, fill_by_all}
 use Rattle.algebra.specs.Congruence.{Same}
 use Rattle.algebra.specs.Layers.{ntt, inv_ntt}
 use Rattle.algebra.specs.Slots.{size, gamma}
-use Rattle.algebra.specs.Product.{product_mod, product, base_product, BaseProducts}
+use Rattle.algebra.specs.Product.{product, base_product, BaseProducts}
 use Rattle.algebra.specs.Polynomials.{coefficient, listed, Polynomial, transform, inverse_transform, polynomial_product, transform_product}
 use Rattle.algebra.proofs.Modular.{same_refl, same_sym, ◌⨾◌}
 use Rattle.algebra.proofs.Inverse.{inv_ntt_ntt}

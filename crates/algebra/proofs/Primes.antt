@@ -1,5 +1,5 @@
 -- A number that no number from 2 to its root divides is prime: by descent, a to p % a.
-use Rattle.std.proofs.Common.{◌≡◌, ℕ, zero, suc, ◌+◌, ◌*◌, ◌/◌, ◌%◌, ◌<◌, ◌≤◌, Bool, true, false, T, ltb, ◌⊎◌, sym, refl, ap, ◌∙◌, subst, inl, inr, mod-lt, mod-eq_of_lt, mul_comm, add-mul, mul-le-mul, one-mul, mul-one, mul-add, mul_left_comm, arith, lit<, ltb→lt}
+use Rattle.std.proofs.Common.{◌≡◌, ℕ, zero, suc, ◌+◌, ◌*◌, ◌/◌, ◌%◌, ◌<◌, ◌≤◌, Bool, true, false, T, ltb, ◌⊎◌, sym, ap, ◌∙◌, subst, inl, inr, mod-lt, mul-le-mul, one-mul, arith, lit<, ltb→lt}
 use native.Mathlib.Decide.{ℕ_discrete, dec_le}
 use native.Mathlib.Nat.{div-add-mod, mul-mod_right, mul-mod_left, mul-add-mod_self_left}
 use Rattle.algebra.specs.Prime.{Prime}

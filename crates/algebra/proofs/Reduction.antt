@@ -3,10 +3,9 @@ use Rattle.std.proofs.Common.{◌≡◌, ℕ, suc, ◌+◌, ◌*◌, ◌%◌, �
 use native.Mathlib.Nat.{mod-mod_of_dvd, dvd-mul_right}
 use lib.Arith.{digits_lt}
 use Rattle.algebra.specs.Congruence.{Same}
-use Rattle.algebra.specs.Sum.{sum}
 use Rattle.algebra.specs.Layers.{bitrev, ntt}
 use Rattle.algebra.specs.Slots.{size, gamma, slot}
-use Rattle.algebra.proofs.Modular.{same_of, same_sym, ◌⨾◌, same_mul, same_pow}
+use Rattle.algebra.proofs.Modular.{same_sym, ◌⨾◌, same_mul, same_pow}
 use Rattle.algebra.proofs.Sums.{sum_same}
 use Rattle.algebra.proofs.Slots.{ntt_slots}
 use Rattle.algebra.proofs.Product.{slots_fill}

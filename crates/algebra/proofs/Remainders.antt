@@ -1,5 +1,5 @@
 -- Numbers below n * t by their remainders by n, and numbers below q * p by their remainders by q and p.
-use Rattle.std.proofs.Common.{◌≡◌, ℕ, zero, suc, ◌+◌, ◌-◌, ◌*◌, ◌/◌, ◌%◌, ◌^◌, ◌<◌, ◌≤◌, ◌⊎◌, sym, refl, ap, ◌∙◌, ap₂, inl, inr, ⊎_elim, add_assoc, mod-lt, mod-eq_of_lt, mul_assoc, mul_comm, mul-le-mul_left, pow-suc, mul-one, mul-add, mul_left_comm, arith}
+use Rattle.std.proofs.Common.{◌≡◌, ℕ, zero, suc, ◌+◌, ◌-◌, ◌*◌, ◌/◌, ◌%◌, ◌^◌, ◌<◌, ◌≤◌, ◌⊎◌, sym, ap, ◌∙◌, ap₂, ⊎_elim, add_assoc, mod-lt, mod-eq_of_lt, mul_assoc, mul_comm, mul-le-mul_left, pow-suc, mul-one, mul-add, mul_left_comm, arith}
 use native.Mathlib.Decide.{dec_le}
 use native.Mathlib.Nat.{add-mod, mod-mod, mod-add-mod, add-mod-mod, add-mod_right, add-mul-mod_self_left, mul-add-mod_self_left, add-mul-div_left, div-add-mod, dvd-mul_right, dvd-mul_left, mod-mod_of_dvd, div-eq_of_lt, pow-zero, mul-mod_right, lt_of_mul-lt-mul_left, mod-eq-sub-mod}
 use Rattle.algebra.specs.Remainders.{joined}

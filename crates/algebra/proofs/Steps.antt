@@ -1,5 +1,5 @@
 -- One layer more, by the number of groups: forward layer suc t has 2 ^ t of them, and so has inverse layer suc s where s + suc t is L.
-use Rattle.std.proofs.Common.{◌≡◌, ℕ, zero, suc, ◌+◌, ◌-◌, ◌*◌, ◌^◌, ◌≤◌, refl, ap, ap₂, arith}
+use Rattle.std.proofs.Common.{◌≡◌, ℕ, suc, ◌+◌, ◌-◌, ◌^◌, ◌≤◌, refl, ap, ap₂, arith}
 use Rattle.algebra.specs.Layers.{bitrev, forward, inverse, forward_exponent, inverse_exponent, forward_factor, inverse_factor, layers, inv_layers}
 
 -- the exponents and the factors of a layer of 2 ^ t groups

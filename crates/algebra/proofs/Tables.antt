@@ -1,5 +1,5 @@
 -- A table of the values of a function: its rule at each entry. A table that the code writes out computes to the same list.
-use Rattle.std.proofs.Common.{◌≡◌, ℕ, zero, suc, ◌+◌, ◌%◌, ◌^◌, ◌<◌, List, [], ◌∷◌, get_or, refl, ap, ◌∙◌, le_of_suc-le-suc, not-suc-le-zero, add-zero, add-suc, suc-add, zero-add, arith}
+use Rattle.std.proofs.Common.{◌≡◌, ℕ, zero, suc, ◌+◌, ◌%◌, ◌^◌, ◌<◌, List, [], ◌∷◌, get_or, ap, ◌∙◌, le_of_suc-le-suc, not-suc-le-zero, zero-add, arith}
 
 -- f from, f (from + 1) and so on, count of them
 abbrev pub tabulated : (ℕ → ℕ) → (from count : ℕ) → List ℕ

@@ -1,6 +1,6 @@
 -- Masked layers: a position holds w to the power of its mask, times its value in the plain transform.
 -- A mask is an exponent. Exponents are added and subtracted modulo 2 ^ suc L, the order of w: 256 where L is 7.
-use Rattle.std.specs.Prelude.{◌≡◌, ℕ, zero, suc, ◌+◌, ◌-◌, ◌*◌, ◌/◌, ◌%◌, ◌^◌, ◌<◌, Bool, cond, ◌||◌, List, length, ◌==◌, nat_lt, slice_index}
+use Rattle.std.specs.Prelude.{ℕ, zero, suc, ◌+◌, ◌-◌, ◌*◌, ◌/◌, ◌%◌, ◌^◌, ◌<◌, Bool, cond, ◌||◌, List, length, ◌==◌, nat_lt, slice_index}
 use Rattle.algebra.specs.declared.Direction.{Direction}
 use Rattle.algebra.specs.declared.Direction.TheVariants.{Forward, Inverse}
 use Rattle.algebra.specs.Congruence.{Same}

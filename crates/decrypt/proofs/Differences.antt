@@ -1,5 +1,5 @@
 -- A polynomial from which another is subtracted, and products that are added back.
-use Rattle.std.proofs.Common.{◌≡◌, ℕ, suc, ◌+◌, ◌*◌, ◌<◌, ◌≤◌, List, length, get_or, set, sym, refl, ap, ◌∙◌, arith, length-set, get_or-set_other, get_or-set_same}
+use Rattle.std.proofs.Common.{◌≡◌, ℕ, suc, ◌+◌, ◌<◌, ◌≤◌, List, length, set, refl, ap, ◌∙◌, arith, length-set, get_or-set_other, get_or-set_same}
 use native.Mathlib.Decide.{dec_lt}
 use Rattle.algebra.specs.Congruence.{Same}
 use Rattle.algebra.specs.Sum.{sum}
@@ -8,7 +8,7 @@ use Rattle.algebra.proofs.Modular.{same_of, same_sym, same_refl, same_add, ◌�
 use Rattle.algebra.proofs.Sums.{sum_zero, sum_suc}
 use Rattle.algebra.proofs.Lists.{listed_same, listed_polynomial}
 use Rattle.algebra.proofs.Theorems.{ml_kem}
-use Rattle.transform.specs.Results.{ntt_of, inverse_of, Transformed, Inverted, Multiplied}
+use Rattle.transform.specs.Results.{inverse_of, Transformed, Inverted, Multiplied}
 use Rattle.decrypt.specs.Decryption.{part, term, Rows, Decrypted}
 
 -- the first n coefficients of p were subtracted from w, which now is w'

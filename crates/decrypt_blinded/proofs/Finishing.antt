@@ -1,5 +1,5 @@
 -- What is released after a decryption is v minus the sum of the products.
-use Rattle.std.proofs.Common.{◌≡◌, ℕ, zero, suc, ◌+◌, ◌-◌, ◌*◌, ◌<◌, ◌≤◌, false, ◌⊎◌, List, [], length, sym, refl, ap, ◌∙◌, subst, ⊎_elim, arith}
+use Rattle.std.proofs.Common.{◌≡◌, ℕ, zero, suc, ◌-◌, ◌<◌, ◌≤◌, false, List, [], length, refl, ap, ◌∙◌, subst, ⊎_elim, arith}
 use Rattle.algebra.specs.Congruence.{Same}
 use Rattle.algebra.specs.Sum.{sum}
 use Rattle.algebra.specs.Polynomials.{coefficient}
@@ -10,8 +10,8 @@ use Rattle.histories.specs.declared.register.Form.{Form}
 use Rattle.histories.specs.Operations.{sum_of, difference_of}
 use Rattle.histories.specs.Calls.{coefficients, State, part, release}
 use Rattle.histories.specs.Serves.{Answer, done, given, refused}
-use Rattle.histories.specs.Ledger.{Event, Held, nothing, holds, Reads, Reach, reach, ledger, struck_reach}
-use Rattle.histories.specs.Tracked.{Tracked, Keeps}
+use Rattle.histories.specs.Ledger.{Held, nothing, holds, Reads, Reach, reach, ledger, struck_reach}
+use Rattle.histories.specs.Tracked.{Keeps}
 use Rattle.workspace.specs.Judged.{Judged}
 use Rattle.decrypt_blinded.specs.Decryption.{term, Decrypted}
 use Rattle.decrypt_blinded.specs.Steps.{products}

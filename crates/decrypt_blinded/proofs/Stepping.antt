@@ -1,5 +1,5 @@
 -- The ledger through the steps of a decryption.
-use Rattle.std.proofs.Common.{◌≡◌, ℕ, zero, suc, pred, ◌+◌, ◌-◌, ◌*◌, ◌<◌, ◌≤◌, Bool, true, false, cond, eqb, List, length, take, drop, sym, refl, ap, ◌∙◌, subst, arith}
+use Rattle.std.proofs.Common.{◌≡◌, ℕ, zero, suc, pred, ◌+◌, ◌-◌, ◌*◌, ◌≤◌, Bool, true, false, cond, eqb, List, length, take, drop, sym, refl, ap, ◌∙◌, subst, arith}
 use mathlib.Core.Path.{fun_ext}
 use Rattle.std.proofs.lemmas.Bool.{eqb-true, eq-eqb}
 use Rattle.algebra.specs.declared.Direction.{Direction}
@@ -8,7 +8,7 @@ use Rattle.guarded.specs.Model.{Guarded}
 use Rattle.histories.specs.Operations.{difference_of}
 use Rattle.histories.specs.Calls.{coefficients, State, Call, load, turn, join, part, polynomial, transform, plus, minus, times}
 use Rattle.histories.specs.Serves.{Answer, put, done, Serves}
-use Rattle.histories.specs.Ledger.{Held, nothing, holds, moved, ledger_after}
+use Rattle.histories.specs.Ledger.{Held, holds, moved}
 use Rattle.histories.specs.Tracked.{Tracked, Keeps}
 use Rattle.histories.proofs.Tracking.{tracks_on}
 use Rattle.decrypt_blinded.specs.Decryption.{part as row}

@@ -1,5 +1,5 @@
 -- The arithmetic of decryption: v minus the sum of u[i] * s[i], modulo X ^ 256 + 1 and 3329, and the message in it.
-use Rattle.std.specs.Prelude.{◌≡◌, ℕ, ◌+◌, ◌*◌, ◌<◌, cond, ◌&&◌, List, length, take, drop, nat_le}
+use Rattle.std.specs.Prelude.{ℕ, ◌+◌, ◌*◌, ◌<◌, cond, ◌&&◌, List, take, drop, nat_le}
 use Rattle.algebra.specs.Congruence.{Same}
 use Rattle.algebra.specs.Sum.{sum}
 use Rattle.algebra.specs.Polynomials.{coefficient, Polynomial}

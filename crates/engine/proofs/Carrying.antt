@@ -3,7 +3,6 @@ use Rattle.std.proofs.Common.{◌≡◌, ℕ, zero, suc, ◌+◌, ◌-◌, ◌*�
 use native.Mathlib.Decide.{ℕ_discrete}
 use native.Mathlib.Nat.{pow-succ'}
 use Rattle.std.proofs.lemmas.Bool.{eqb-true}
-use Rattle.algebra.specs.declared.Direction.{Direction}
 use Rattle.algebra.specs.declared.Direction.TheVariants.{Forward, Inverse}
 use Rattle.algebra.specs.Layers.{forward_len, forward_groups, inverse_len, inverse_groups}
 use Rattle.algebra.specs.Masks.{is_list_length, suits, mask_after}

@@ -3,13 +3,13 @@ use Rattle.std.proofs.Common.{◌≡◌, ℕ, zero, suc, pred, ◌+◌, ◌-◌,
 use native.Mathlib.Nat.{div-add-mod, mod-zero, pow-le-pow_right, pow-succ'}
 use Rattle.algebra.specs.declared.Direction.TheVariants.{Forward, Inverse}
 use Rattle.algebra.specs.Congruence.{Same}
-use Rattle.algebra.specs.Layers.{bitrev, forward_len, forward_groups, forward_exponent, inverse_len, inverse_groups, inverse_exponent, last_factor, layers, inv_stage}
+use Rattle.algebra.specs.Layers.{bitrev, forward_len, forward_groups, forward_exponent, inverse_len, inverse_groups, inverse_exponent, layers}
 use Rattle.algebra.specs.Masks.{suits, mask_after, Holds, ForwardLayer, InverseLayer}
 use Rattle.algebra.proofs.Modular.{same_by}
-use Rattle.algebra.proofs.MaskLists.{forward_step_listed, inverse_step_listed}
+use Rattle.algebra.proofs.MaskLists.{forward_step_listed}
 use Rattle.engine.specs.Rows.{held, GroupWritten, LayerWritten}
-use Rattle.engine.specs.Pairs.{wide_mask, forward_pair, inverse_pair, forward_pairs, inverse_pairs}
-use Rattle.engine.specs.Steps.{WentForward, WentBack}
+use Rattle.engine.specs.Pairs.{forward_pair, inverse_pair, forward_pairs, inverse_pairs}
+use Rattle.engine.specs.Steps.{WentForward}
 use Rattle.engine.proofs.Numbers.{forward_under, inverse_under, with_factor}
 use Rattle.engine.proofs.Rows.{past, layer_more}
 use Rattle.engine.proofs.Carrying.{forward_incoming, forward_outgoing, inverse_incoming, inverse_outgoing}

@@ -1,8 +1,8 @@
 -- From the answers of the ring to the masked butterflies.
-use Rattle.std.proofs.Common.{◌≡◌, ℕ, zero, suc, pred, ◌+◌, ◌-◌, ◌*◌, ◌/◌, ◌%◌, ◌^◌, ◌<◌, ◌≤◌, sym, refl, ap, ◌∙◌, subst, mod-lt, arith, lit<}
+use Rattle.std.proofs.Common.{◌≡◌, ℕ, zero, suc, pred, ◌+◌, ◌-◌, ◌*◌, ◌%◌, ◌^◌, ◌<◌, ◌≤◌, ap, ◌∙◌, subst, mod-lt, arith}
 use Rattle.algebra.specs.Congruence.{Same}
 use Rattle.algebra.specs.Masks.{mask_difference, MaskedForward, MaskedInverse}
-use Rattle.algebra.proofs.Modular.{same_of, same_sym, same_mod, same_sub, same_add, same_mul_left, same_mul_right, ◌⨾◌}
+use Rattle.algebra.proofs.Modular.{same_of, same_mod, same_sub, same_add, same_mul_left, same_mul_right, ◌⨾◌}
 
 pub difference_by : (d e : ℕ) → e < 256 → (d + (256 - e)) % 256 ≡ mask_difference 7 d e
 unfolding mask_difference

@@ -1,5 +1,5 @@
 -- Rows of words: a layer is written pair by pair and group by group.
-use Rattle.std.proofs.Common.{◌≡◌, ℕ, zero, suc, ◌+◌, ◌-◌, ◌*◌, ◌<◌, ◌≤◌, Bool, true, ◌≢◌, List, map, length, get_or, set, sym, refl, ap, ◌∙◌, subst, mul-le-mul_right, add-mul, arith, length-set, get_or-set_other, get_or-set_same}
+use Rattle.std.proofs.Common.{◌≡◌, ℕ, ◌+◌, ◌*◌, ◌<◌, ◌≤◌, Bool, true, ◌≢◌, List, map, length, get_or, set, sym, refl, ap, ◌∙◌, subst, mul-le-mul_right, add-mul, arith, length-set, get_or-set_other, get_or-set_same}
 use native.Mathlib.Decide.{ℕ_discrete, dec_lt}
 use lib.ListN.{length-map}
 use lib.Seq.{map-set}

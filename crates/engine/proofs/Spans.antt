@@ -1,5 +1,5 @@
 -- The places of a group and the numbers of its butterflies.
-use Rattle.std.proofs.Common.{◌≡◌, ℕ, ◌+◌, ◌*◌, ◌/◌, ◌≤◌, mul_comm, mul-le-mul_left, arith}
+use Rattle.std.proofs.Common.{ℕ, ◌+◌, ◌*◌, ◌/◌, ◌≤◌, mul-le-mul_left, arith}
 
 pub own_low : (len g : ℕ) → g * (2 * len) + 2 * len ≤ 256 → len * g ≤ 128
 own_low len g h = omega arith

@@ -1,6 +1,6 @@
 -- antt computes each figure; those over all 256 coefficients as one test.
-use Prim.Native.Nat.{ℕ, ◌%◌}
-use mathlib.Core.Path.{◌≡◌, refl}
+use Prim.Native.Nat.{◌%◌}
+use mathlib.Core.Path.{refl}
 use mathlib.Core.Bool.{cond, ◌||◌}
 use mathlib.Core.List.{[], ◌∷◌}
 use lib.Dec.{T, eqb, eqb→eq}

@@ -1,6 +1,6 @@
 -- A meaning is known by its remainders, so lift and split undo each other.
 use Rattle.algebra.proofs.Remainders.{known_by}
-use Rattle.guarded.specs.Model.{Guarded, Lawful, Lifted, RoundTrips}
+use Rattle.guarded.specs.Model.{Guarded, Lawful, RoundTrips}
 
 pub round_trips : {W : Type 0} (G : Guarded W) → Lawful G → RoundTrips G
 round_trips G law =

@@ -1,5 +1,5 @@
 -- The check moduli that approval knows, and what goes with each.
-use Rattle.std.specs.Prelude.{ℕ, ◌*◌, ◌%◌, Bool, cond, ◌&&◌, ◌||◌, ◌==◌, nat_le}
+use Rattle.std.specs.Prelude.{ℕ, ◌%◌, Bool, cond, ◌&&◌, ◌||◌, ◌==◌, nat_le}
 use Rattle.algebra.specs.Remainders.{joined}
 use Rattle.rings.specs.Moduli.{plain_root}
 

@@ -1,6 +1,6 @@
 -- What holds of both check moduli.
-use Rattle.std.specs.Prelude.{◌≡◌, ℕ, ◌+◌, ◌*◌, ◌/◌, ◌%◌, ◌^◌, ◌<◌, ◌≤◌, true, ◌⊎◌, ◌==◌, refl}
-use Rattle.std.proofs.Common.{sym, subst, inl, inr, ⊎_elim, lit<, arith}
+use Rattle.std.specs.Prelude.{◌≡◌, ℕ, ◌+◌, ◌*◌, ◌%◌, ◌^◌, ◌<◌, ◌≤◌, true, ◌==◌, refl}
+use Rattle.std.proofs.Common.{sym, subst, ⊎_elim, lit<, arith}
 use Rattle.std.proofs.lemmas.Bool.{eqb-true, or_cases}
 use Rattle.algebra.specs.Prime.{Prime}
 use Rattle.algebra.proofs.Primes.{prime_7681, prime_12289}

@@ -1,10 +1,10 @@
 -- The pairs of remainders are a guarded ring.
-use Rattle.std.specs.Prelude.{◌≡◌, ℕ, ◌+◌, ◌*◌, ◌%◌, ◌^◌, ◌<◌, ◌≤◌, true, nat_lt, refl}
+use Rattle.std.specs.Prelude.{◌≡◌, ℕ, ◌%◌, ◌<◌, true, nat_lt, refl}
 use Rattle.std.proofs.Common.{sym, ap, ap₂, ◌∙◌, arith, mod-eq_of_lt, lit<, lit≤}
 use Rattle.std.proofs.lemmas.Bool.{ltb-true, and_parts}
 use Rattle.guarded.specs.declared.pair.Pair.{Pair}
 use Rattle.guarded.specs.declared.pair.Residues.{Residues}
-use Rattle.guarded.specs.Model.{Guarded, Lawful}
+use Rattle.guarded.specs.Model.{Lawful}
 use Rattle.guarded.specs.Moduli.{is_check, joint_root}
 use Rattle.guarded.specs.PairRing.{pair_check, pair_element, pair_meaning, pair_number}
 use Rattle.guarded.specs.ModuliLemmas.{known_above, known_below, known_prime, known_turned, known_coefficient}

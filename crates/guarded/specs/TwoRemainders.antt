@@ -1,6 +1,6 @@
 -- Numbers by their remainders by 3329 and p, for the two check moduli.
-use Rattle.std.specs.Prelude.{◌≡◌, ℕ, ◌+◌, ◌-◌, ◌*◌, ◌/◌, ◌%◌, ◌^◌, ◌<◌, ◌≤◌, true, ◌&&◌, nat_lt, refl}
-use Rattle.std.proofs.Common.{sym, ap, ap₂, ◌∙◌, arith, mul_comm, mod-lt, mod-eq_of_lt, lit<}
+use Rattle.std.specs.Prelude.{◌≡◌, ℕ, ◌+◌, ◌-◌, ◌*◌, ◌%◌, ◌^◌, ◌<◌, true, ◌&&◌, nat_lt}
+use Rattle.std.proofs.Common.{sym, ap, ap₂, ◌∙◌, arith, mul_comm, mod-lt, lit<}
 use Rattle.std.proofs.lemmas.Bool.{lt-ltb, and_from}
 use Rattle.algebra.proofs.Remainders.{pow_mod, joined_below, joined_plain, joined_guard, joined_of, at_sum, at_product, at_less}
 use Rattle.rings.specs.Moduli.{plain_root}

@@ -1,11 +1,11 @@
 -- Complaints, tests over lists, and a function changed at one place.
-use Rattle.std.proofs.Common.{◌≡◌, ℕ, zero, suc, pred, ◌%◌, ◌<◌, Bool, true, false, cond, ◌&&◌, eqb, ltb, List, [], ◌∷◌, map, length, get_or, sym, refl, ap, ◌∙◌, subst, mod-lt, arith, length-drop, length-take}
+use Rattle.std.proofs.Common.{◌≡◌, ℕ, zero, suc, pred, ◌%◌, ◌<◌, Bool, true, false, cond, ◌&&◌, eqb, List, [], ◌∷◌, map, length, get_or, sym, refl, ◌∙◌, subst, mod-lt, arith, length-drop, length-take}
 use mathlib.Core.Option.{Option, none, some}
 use lib.ListN.{length-map}
 use Rattle.std.proofs.lemmas.List.{get_or-map}
 use Rattle.algebra.specs.Polynomials.{Polynomial}
-use Rattle.std.proofs.lemmas.Bool.{true≢false, false≢true, and_parts, and_from, lt-ltb, eqb-true, eq-eqb}
-use Rattle.rings.specs.Refusals.{Check, test, scan, or_else, first, Passes, next, flaw}
+use Rattle.std.proofs.lemmas.Bool.{and_parts, and_from, eqb-true, eq-eqb}
+use Rattle.rings.specs.Refusals.{Check, test, scan, first, Passes, next, flaw}
 use Rattle.histories.specs.Operations.{Base, neg, Good, remainders}
 use Rattle.histories.specs.Calls.{part, differ, eight}
 use Rattle.histories.specs.Serves.{put}

@@ -1,8 +1,8 @@
 -- What can be cancelled modulo suc neg.
-use Rattle.std.proofs.Common.{◌≡◌, ℕ, suc, pred, ◌+◌, ◌*◌, ◌%◌, ◌^◌, ◌<◌, ◌≤◌, sym, refl, ap, ◌∙◌, arith, pow-add}
+use Rattle.std.proofs.Common.{◌≡◌, ℕ, ◌+◌, ◌*◌, ◌%◌, ◌^◌, sym, arith, pow-add}
 use native.Mathlib.Nat.{pow-zero}
 use Rattle.algebra.specs.Congruence.{Same}
-use Rattle.algebra.proofs.Modular.{same_of, same_refl, same_sym, ◌⨾◌, same_by, same_add, same_mul, same_mul_left, same_mul_right}
+use Rattle.algebra.proofs.Modular.{same_of, same_refl, same_sym, ◌⨾◌, same_by, same_add, same_mul_left, same_mul_right}
 use Rattle.algebra.proofs.Powers.{pow_of_mod}
 
 pub cancel_add : {neg : ℕ} (x y z : ℕ) → Same neg (x + z) (y + z) → Same neg x y

@@ -1,5 +1,5 @@
 -- Forms, and what a register should hold in each.
-use Rattle.std.proofs.Common.{◌≡◌, ℕ, zero, suc, pred, ◌-◌, ◌<◌, ◌≤◌, Bool, true, false, cond, ◌&&◌, ◌||◌, eqb, ◌⊎◌, List, sym, refl, ap, ◌∙◌, inl, inr, arith}
+use Rattle.std.proofs.Common.{◌≡◌, ℕ, suc, pred, ◌-◌, ◌≤◌, Bool, true, false, cond, eqb, ◌⊎◌, List, sym, refl, inl, inr, arith}
 use Rattle.std.proofs.lemmas.Bool.{true≢false, false≢true, eqb-true, eqb-false}
 use Rattle.algebra.specs.declared.Direction.{Direction}
 use Rattle.algebra.specs.declared.Direction.TheVariants.{Forward, Inverse}

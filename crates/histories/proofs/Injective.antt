@@ -1,13 +1,13 @@
 -- A masked layer takes no two rows to one.
-use Rattle.std.proofs.Common.{◌≡◌, ℕ, suc, pred, ◌+◌, ◌-◌, ◌*◌, ◌^◌, ◌<◌, ◌≤◌, Bool, true, false, cond, ltb, List, sym, refl, ap, ◌∙◌, arith, pow_pos}
+use Rattle.std.proofs.Common.{◌≡◌, ℕ, suc, ◌+◌, ◌-◌, ◌*◌, ◌^◌, ◌<◌, Bool, true, false, cond, ltb, List, sym, ap, ◌∙◌, arith, pow_pos}
 use Rattle.algebra.specs.declared.Direction.{Direction}
 use Rattle.algebra.specs.declared.Direction.TheVariants.{Forward, Inverse}
 use Rattle.algebra.specs.Congruence.{Same}
-use Rattle.algebra.specs.Layers.{forward_len, forward_groups, inverse_len, inverse_groups, forward_exponent, inverse_exponent, last_factor}
+use Rattle.algebra.specs.Layers.{forward_len, forward_groups, inverse_len, inverse_groups, forward_exponent, last_factor}
 use Rattle.algebra.specs.Masks.{mask_difference, mask_after, masked_layer}
-use Rattle.algebra.specs.Polynomials.{coefficient, listed, Polynomial}
+use Rattle.algebra.specs.Polynomials.{coefficient, listed}
 use Rattle.algebra.specs.Theorems.{Laws}
-use Rattle.algebra.proofs.Modular.{same_of, same_refl, same_sym, ◌⨾◌, same_mul_left}
+use Rattle.algebra.proofs.Modular.{same_of, same_refl, same_sym, ◌⨾◌}
 use Rattle.algebra.proofs.Layers.{in_halves}
 use Rattle.algebra.proofs.Inverse.{at_low, at_high, whole}
 use Rattle.algebra.proofs.Steps.{forward_len_is, forward_groups_is, inverse_len_is, inverse_groups_is}

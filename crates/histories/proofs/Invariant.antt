@@ -1,7 +1,7 @@
 -- The invariant of a history, and that each call keeps it.
-use Rattle.std.proofs.Common.{◌≡◌, ℕ, zero, suc, ◌<◌, ◌≤◌, Bool, true, false, cond, not, ◌||◌, eqb, ◌⊎◌, List, [], ◌∷◌, length, sym, refl, ap, ◌∙◌, subst, subst₂, inl, inr, ⊎_elim}
+use Rattle.std.proofs.Common.{◌≡◌, ℕ, Bool, true, false, not, ◌||◌, eqb, List, length, sym, refl, ap, ◌∙◌, subst, subst₂, ⊎_elim}
 use mathlib.Core.Option.{Option, none, some}
-use Rattle.std.proofs.lemmas.Bool.{true≢false, false≢true, eqb-false, both_ways, or_cases, not-true, cases_Bool}
+use Rattle.std.proofs.lemmas.Bool.{eqb-false, both_ways, or_cases, not-true}
 use Rattle.algebra.specs.declared.Direction.{Direction}
 use Rattle.rings.specs.declared.refusal.Refusal.{Refusal}
 use Rattle.rings.specs.Refusals.{first}
@@ -10,14 +10,14 @@ use Rattle.histories.specs.declared.register.Form.{Form}
 use Rattle.histories.specs.declared.register.Form.TheVariants.{Empty, Natural, Transformed, Rising, Falling}
 use Rattle.histories.specs.declared.register.Register.{Register}
 use Rattle.histories.specs.Forms.{in_work, occupied}
-use Rattle.histories.specs.Calls.{State, Kind, empty_record, Operation, Call, load, turn, join, refresh, clear, release, eight, free, ruling, word_rules}
+use Rattle.histories.specs.Calls.{State, empty_record, Call, load, turn, join, refresh, clear, release, free, ruling, word_rules}
 use Rattle.histories.specs.Serves.{put, Accepted, Written, loaded, turned, joined, registers_after, masks_after, writes, or, verdict}
-use Rattle.histories.specs.Ledger.{Held, nothing, holds, Reach, unreached, reached, moved, held_of, either, put_in, ledger_after, reach_after, Apart}
+use Rattle.histories.specs.Ledger.{Held, nothing, Reach, unreached, moved, held_of, either, put_in, ledger_after, reach_after, Apart}
 use Rattle.histories.proofs.Asked.{Algebra}
-use Rattle.histories.proofs.Basics.{every, no_some, passes, flaw_none, pick, split, frame1, frame2, frame3}
+use Rattle.histories.proofs.Basics.{no_some, passes, flaw_none, pick, split, frame1, frame2, frame3}
 use Rattle.histories.proofs.Forms.{whole_idle, joins_whole, same_forms}
-use Rattle.histories.proofs.Rulings.{load_passed, turn_passed, TurnPassed, join_passed, refresh_passed, factors_passed}
-use Rattle.histories.proofs.Local.{Common, Bond, Local}
+use Rattle.histories.proofs.Rulings.{load_passed, turn_passed, TurnPassed, join_passed, factors_passed}
+use Rattle.histories.proofs.Local.{Local}
 use Rattle.histories.proofs.Turning.{turn_local, refresh_local, load_local, load_idle, clear_local, remask_local}
 use Rattle.histories.proofs.Joining.{join_local}
 

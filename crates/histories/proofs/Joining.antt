@@ -1,19 +1,19 @@
 -- Sums, differences and products, on the three registers that they name.
-use Rattle.std.proofs.Common.{◌≡◌, ℕ, zero, suc, ◌+◌, ◌-◌, ◌*◌, ◌%◌, ◌<◌, ◌≤◌, max, Bool, true, false, ◌⊎◌, List, map, length, sym, refl, ap, ◌∙◌, subst, ap₂, inl, inr, ⊎_elim, mod-lt, arith}
+use Rattle.std.proofs.Common.{◌≡◌, ℕ, ◌+◌, ◌-◌, ◌*◌, ◌%◌, ◌<◌, ◌≤◌, true, ◌⊎◌, List, map, sym, refl, ap, ◌∙◌, subst, ap₂, ⊎_elim, mod-lt, arith}
 use native.Mathlib.Nat.{zero-mod, mod_self}
-use Rattle.std.proofs.lemmas.Bool.{true≢false, false≢true}
+use Rattle.std.proofs.lemmas.Bool.{false≢true}
 use Rattle.guarded.specs.Model.{Guarded, Lawful}
 use Rattle.histories.specs.declared.register.Form.{Form}
-use Rattle.histories.specs.declared.register.Form.TheVariants.{Empty, Natural, Transformed}
+use Rattle.histories.specs.declared.register.Form.TheVariants.{Transformed}
 use Rattle.histories.specs.declared.register.Register.{Register}
-use Rattle.histories.specs.Operations.{Base, Good, remainders, transform_of, witness}
+use Rattle.histories.specs.Operations.{Base, Good, remainders, witness}
 use Rattle.histories.specs.Forms.{occupied, whole, in_form}
 use Rattle.histories.specs.Calls.{coefficients, checks, meanings, plains, residues, Operation, plus, minus, times, joins}
 use Rattle.histories.specs.Serves.{Meaning, joined, level_of, first_number, second_number, combined}
 use Rattle.histories.specs.Ledger.{Held, nothing, holds, Reach, unreached, reached, held_of, result, either}
-use Rattle.histories.proofs.Asked.{Fine, expected, owed, Transforms, Regular, Simple, Algebra}
+use Rattle.histories.proofs.Asked.{expected, owed, Transforms, Regular, Simple, Algebra}
 use Rattle.histories.proofs.Basics.{every, flaw_none}
-use Rattle.histories.proofs.Forms.{whole_idle, joins_whole, times_transformed}
+use Rattle.histories.proofs.Forms.{joins_whole, times_transformed}
 use Rattle.histories.proofs.Rulings.{Factors}
 use Rattle.histories.proofs.Local.{Layered, Common, Kept, Tainted, Bond, Local, taint_carry}
 use Rattle.histories.proofs.Struck.{no_hit}

@@ -1,6 +1,6 @@
 -- What holds of one register throughout a history, and how one step carries it.
-use Rattle.std.proofs.Common.{◌≡◌, ℕ, zero, suc, pred, ◌<◌, ◌≤◌, Bool, true, false, List, length, sym, refl, ap, ◌∙◌, subst}
-use Rattle.std.proofs.lemmas.Bool.{true≢false, false≢true, both_ways}
+use Rattle.std.proofs.Common.{◌≡◌, ℕ, ◌<◌, ◌≤◌, true, false, List, length, sym, ap, ◌∙◌}
+use Rattle.std.proofs.lemmas.Bool.{both_ways}
 use Rattle.guarded.specs.Model.{Guarded}
 use Rattle.histories.specs.declared.register.Form.{Form}
 use Rattle.histories.specs.declared.register.Form.TheVariants.{Empty}

@@ -1,25 +1,24 @@
 -- Over whole histories: unreached and reached registers.
-use Rattle.std.proofs.Common.{◌≡◌, ℕ, zero, suc, ◌+◌, ◌*◌, ◌/◌, ◌<◌, ◌≤◌, Bool, true, false, cond, not, ◌||◌, eqb, leb, ◌⊎◌, List, [], ◌∷◌, length, sym, refl, ap, ◌∙◌, subst, ap₂, subst₂, inl, inr, ⊎_elim, arith, lit≤}
+use Rattle.std.proofs.Common.{◌≡◌, ℕ, ◌+◌, ◌*◌, ◌/◌, ◌<◌, ◌≤◌, Bool, true, false, cond, leb, List, [], ◌∷◌, length, sym, refl, ap, ◌∙◌, subst, ap₂, subst₂, inl, inr, ⊎_elim, arith, lit≤}
 use mathlib.Core.Option.{Option, none, some}
-use Rattle.std.proofs.lemmas.Bool.{true≢false, false≢true, both_ways, cases_Bool, or_parts, not-false}
+use Rattle.std.proofs.lemmas.Bool.{true≢false, false≢true, both_ways, or_parts}
 use Rattle.rings.specs.declared.refusal.Refusal.{Refusal}
 use Rattle.rings.specs.declared.refusal.Refusal.TheVariants as refuse
-use Rattle.rings.specs.Refusals.{number_of, place_of, Check, test, scan, first, flaw}
+use Rattle.rings.specs.Refusals.{number_of, place_of, first, flaw}
 use Rattle.guarded.specs.Model.{Guarded, Lawful}
 use Rattle.histories.specs.declared.register.Form.{Form}
-use Rattle.histories.specs.declared.register.Form.TheVariants.{Empty, Natural, Transformed}
 use Rattle.histories.specs.declared.register.Register.{Register}
-use Rattle.histories.specs.Operations.{Base, Good, witness}
+use Rattle.histories.specs.Operations.{witness}
 use Rattle.histories.specs.Forms.{occupied, whole, in_form}
 use Rattle.histories.specs.Calls.{coefficients, checks, State, part, Call, load, turn, join, refresh, clear, release, Operation, plus, minus, times, factors, rules, ruling, differ, plains, residues, due, word_rules}
-use Rattle.histories.specs.Serves.{Answer, done, given, refused, is_refused, reply, or, verdict, Serves, accepts, refuses}
-use Rattle.histories.specs.Ledger.{Event, History, opens, goes, Held, nothing, holds, Reach, unreached, reached, ledger, ledger_after, Reads, reach, reach_at, reach_after, strike, Single, Apart}
+use Rattle.histories.specs.Serves.{given, is_refused, reply, or, verdict, Serves, accepts, refuses}
+use Rattle.histories.specs.Ledger.{Event, History, opens, goes, Held, nothing, holds, Reach, unreached, reached, ledger, ledger_after, Reads, reach, reach_at, reach_after, Single}
 use Rattle.histories.specs.Theorem.{Undisturbed, Detected, early, found, spoiled}
-use Rattle.histories.proofs.Asked.{expected, owed, Transforms, Algebra}
+use Rattle.histories.proofs.Asked.{owed, Algebra}
 use Rattle.histories.proofs.Basics.{every, no_some, passes, flaw_none, every_flaw, differ_refl, differ_none, Sounds, sound_first, flaw_below, part_size}
 use Rattle.histories.proofs.Forms.{layers_of, whole_cases}
 use Rattle.histories.proofs.Rulings.{turn_passed, join_passed, refresh_passed, release_passed}
-use Rattle.histories.proofs.Local.{Layered, Common, Kept, Tainted, Bond, Local}
+use Rattle.histories.proofs.Local.{Tainted, Local}
 use Rattle.histories.proofs.Struck.{strike_local, no_hit}
 use Rattle.histories.proofs.Turning.{clear_local}
 use Rattle.histories.proofs.Invariant.{Inv, or_none, accepted_keeps}

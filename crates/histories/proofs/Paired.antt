@@ -1,5 +1,5 @@
 -- Two workspaces that nothing strikes answer alike.
-use Rattle.std.proofs.Common.{◌≡◌, ℕ, zero, suc, ◌<◌, ◌≤◌, Bool, true, false, cond, List, [], ◌∷◌, map, length, sym, refl, ap, ◌∙◌, subst, ap₂, subst₂}
+use Rattle.std.proofs.Common.{◌≡◌, ℕ, Bool, true, false, cond, List, [], ◌∷◌, sym, refl, ap, ◌∙◌, subst, ap₂}
 use mathlib.Core.Option.{Option, none, some}
 use Rattle.std.proofs.lemmas.Bool.{true≢false, false≢true, both_ways}
 use Rattle.rings.specs.declared.refusal.Refusal.{Refusal}
@@ -10,10 +10,10 @@ use Rattle.histories.specs.declared.register.Form.{Form}
 use Rattle.histories.specs.declared.register.Register.{Register}
 use Rattle.histories.specs.Forms.{occupied, whole, in_form}
 use Rattle.histories.specs.Calls.{coefficients, State, part, Call, load, turn, join, refresh, clear, release, rules, ruling, differ, plains, residues, due, word_rules}
-use Rattle.histories.specs.Serves.{Answer, done, given, refused, is_refused, reply, registers_after, Accepted, or, verdict, Serves, accepts, refuses}
+use Rattle.histories.specs.Serves.{Answer, given, refused, is_refused, reply, registers_after, or, verdict, Serves, accepts, refuses}
 use Rattle.histories.specs.Ledger.{Event, History, opens, goes, Held, nothing, holds, Reach, unreached, reached, struck_reach, either, ledger, ledger_after, reach, reach_at, reach_after, Single}
-use Rattle.histories.specs.Theorem.{Like, load_like, turn_like, join_like, refresh_like, clear_like, release_like, blames, Calm, Twins, start, also, answers, Alike}
-use Rattle.histories.proofs.Asked.{Algebra, Transforms, owed}
+use Rattle.histories.specs.Theorem.{Like, load_like, turn_like, join_like, refresh_like, clear_like, release_like, blames, Twins, start, also, answers, Alike}
+use Rattle.histories.proofs.Asked.{Algebra, owed}
 use Rattle.histories.proofs.Basics.{every, no_some, every_flaw, differ_refl, frame1}
 use Rattle.histories.proofs.Rulings.{turn_passed, join_passed, refresh_passed, release_passed}
 use Rattle.histories.proofs.Local.{Local}

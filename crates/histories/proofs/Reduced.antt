@@ -1,11 +1,10 @@
 -- Remainders go through the layers, sums, differences and products: where the modulus of B divides that of M, a step over M leaves the
 -- step over B.
-use Rattle.std.proofs.Common.{◌≡◌, ℕ, zero, suc, pred, ◌+◌, ◌-◌, ◌*◌, ◌/◌, ◌%◌, ◌^◌, ◌<◌, ◌≤◌, Bool, true, false, cond, ltb, List, [], ◌∷◌, map, length, get_or, sym, refl, ap, ◌∙◌}
+use Rattle.std.proofs.Common.{◌≡◌, ℕ, zero, suc, ◌+◌, ◌-◌, ◌%◌, ◌<◌, Bool, true, false, cond, ltb, List, [], ◌∷◌, sym, refl}
 use native.Mathlib.Nat.{zero-mod}
 use Rattle.algebra.specs.declared.Direction.{Direction}
 use Rattle.algebra.specs.declared.Direction.TheVariants.{Forward, Inverse}
 use Rattle.algebra.specs.Congruence.{Same}
-use Rattle.algebra.specs.Sum.{sum}
 use Rattle.algebra.specs.Slots.{size, gamma}
 use Rattle.algebra.specs.Product.{turned, product_mod, base_product}
 use Rattle.algebra.specs.Masks.{masked_forward, masked_inverse, masked_layer}

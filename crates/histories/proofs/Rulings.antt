@@ -1,6 +1,6 @@
 -- What an accepted call has passed.
-use Rattle.std.proofs.Common.{◌≡◌, ℕ, suc, ◌<◌, ◌≤◌, Bool, true, false, not, ◌&&◌, eqb, ltb, leb, List, length, refl}
-use mathlib.Core.Option.{Option, none, some}
+use Rattle.std.proofs.Common.{◌≡◌, ℕ, ◌<◌, ◌≤◌, true, ltb, List, length}
+use mathlib.Core.Option.{none}
 use Rattle.std.proofs.lemmas.Bool.{ltb-true, leb-true, eqb-true, and_parts}
 use Rattle.algebra.specs.declared.Direction.{Direction}
 use Rattle.rings.specs.Refusals.{Passes}
@@ -8,7 +8,7 @@ use Rattle.rings.proofs.Flaws.{low_at}
 use Rattle.histories.specs.declared.register.Register.{Register}
 use Rattle.histories.specs.Operations.{Good}
 use Rattle.histories.specs.Forms.{occupied, whole, same_form, turns}
-use Rattle.histories.specs.Calls.{coefficients, Kind, Call, load, turn, join, refresh, clear, release, Operation, plus, minus, times, joins, eight, free, factors, rules, ruling}
+use Rattle.histories.specs.Calls.{coefficients, Kind, load, turn, join, refresh, release, Operation, plus, minus, times, joins, eight, free, factors, rules, ruling}
 use Rattle.histories.proofs.Basics.{every, passes, flaw_none}
 
 module _ (p t : ℕ) (S : ℕ → Register) (lent : ℕ) where

@@ -1,5 +1,5 @@
 -- The masked layers take what is expected to what is expected next.
-use Rattle.std.proofs.Common.{◌≡◌, ℕ, zero, suc, ◌+◌, ◌*◌, ◌^◌, ◌<◌, ◌≤◌, Bool, true, false, cond, eqb, List, sym, refl, ap, ◌∙◌, subst, arith}
+use Rattle.std.proofs.Common.{◌≡◌, ℕ, suc, ◌*◌, ◌^◌, ◌<◌, Bool, true, false, cond, eqb, List, sym, refl, ◌∙◌, subst, arith}
 use native.Mathlib.Nat.{pow-zero}
 use Rattle.std.proofs.lemmas.Bool.{false≢true, eqb-true}
 use Rattle.algebra.specs.declared.Direction.{Direction}
@@ -9,7 +9,7 @@ use Rattle.algebra.specs.Layers.{layers, inv_layers, inv_stage, ntt, inv_ntt}
 use Rattle.algebra.specs.Masks.{Holds, mask_after, masked_layer}
 use Rattle.algebra.specs.Polynomials.{coefficient, listed}
 use Rattle.algebra.specs.Theorems.{Laws}
-use Rattle.algebra.proofs.Modular.{same_of, same_refl, same_sym, ◌⨾◌, same_mul, same_mul_left}
+use Rattle.algebra.proofs.Modular.{same_of, ◌⨾◌}
 use Rattle.algebra.proofs.Lists.{listed_same, listed_is, listed_cong, listed_polynomial}
 use Rattle.algebra.proofs.MaskLists.{mask_none, mask_end}
 use Rattle.algebra.proofs.Theorems.{transforms}

@@ -1,9 +1,9 @@
 -- A strike, on one register.
-use Rattle.std.proofs.Common.{◌≡◌, ℕ, ◌<◌, Bool, true, false, List, length, sym, refl, ap, ◌∙◌, subst}
+use Rattle.std.proofs.Common.{◌≡◌, ℕ, ◌<◌, Bool, true, false, List, length, sym, refl, ◌∙◌, subst}
 use Rattle.guarded.specs.Model.{Guarded}
 use Rattle.histories.specs.declared.register.Register.{Register}
 use Rattle.histories.specs.Ledger.{Held, nothing, holds, Reach, unreached, reached, struck_reach}
-use Rattle.histories.proofs.Local.{Common, Kept, Tainted, Bond, Local, bond_under}
+use Rattle.histories.proofs.Local.{Bond, Local, bond_under}
 
 abbrev pub IsHit : {W : Type 0} → Reach W → Type 0
 IsHit unreached = ⊥

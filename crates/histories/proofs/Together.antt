@@ -1,13 +1,12 @@
 -- Sums, differences and products go with the transform; the witnesses compute; and a sum, a difference or a product with a witness
 -- determines the other operand.
-use Rattle.std.proofs.Common.{◌≡◌, ℕ, zero, suc, pred, ◌+◌, ◌-◌, ◌*◌, ◌/◌, ◌%◌, ◌^◌, ◌<◌, ◌≤◌, Bool, true, false, cond, ltb, List, sym, refl, ap, ◌∙◌, subst, ap₂, mod-lt, arith, lit<}
+use Rattle.std.proofs.Common.{◌≡◌, ℕ, zero, suc, pred, ◌+◌, ◌-◌, ◌*◌, ◌/◌, ◌%◌, ◌^◌, ◌<◌, Bool, true, false, cond, ltb, List, sym, refl, ap, ◌∙◌, ap₂, mod-lt, arith, lit<}
 use Rattle.std.proofs.lemmas.Bool.{false≢true}
 use Rattle.algebra.specs.Congruence.{Same}
-use Rattle.algebra.specs.Sum.{sum}
 use Rattle.algebra.specs.Layers.{ntt}
 use Rattle.algebra.specs.Product.{turned, product_mod, product, base_product, ones}
 use Rattle.algebra.specs.Slots.{size, gamma}
-use Rattle.algebra.specs.Polynomials.{coefficient, listed, Polynomial, inverse_transform}
+use Rattle.algebra.specs.Polynomials.{coefficient, listed, inverse_transform}
 use Rattle.algebra.specs.Theorems.{Laws}
 use Rattle.algebra.proofs.Modular.{same_of, same_refl, same_sym, ◌⨾◌, same_by, same_add, same_mul, same_mul_left, same_mul_right, same_mod, same_sub}
 use Rattle.algebra.proofs.Sums.{sum_cong, sum_scale}

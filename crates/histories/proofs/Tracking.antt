@@ -1,9 +1,9 @@
 -- Each accepted call takes a workspace that nothing has struck to the next ledger.
-use Rattle.std.proofs.Common.{◌≡◌, ℕ, Bool, true, false, cond, eqb, List, [], ◌∷◌, length, sym, refl, ap, ◌∙◌, subst}
+use Rattle.std.proofs.Common.{◌≡◌, ℕ, Bool, true, false, cond, eqb, List, [], ◌∷◌, length, refl, ap, ◌∙◌}
 use Rattle.guarded.specs.Model.{Guarded}
 use Rattle.histories.specs.Calls.{State, opened, part, Call, load, turn, join, refresh, clear, release}
 use Rattle.histories.specs.Serves.{Answer, is_refused, put, Serves}
-use Rattle.histories.specs.Ledger.{Event, History, opens, goes, Held, nothing, holds, ledger, ledger_after, Reach, unreached, reach, reach_after, either, strike, struck_reach}
+use Rattle.histories.specs.Ledger.{Event, opens, goes, Held, nothing, holds, ledger, ledger_after, Reach, unreached, reach, reach_after, either, strike, struck_reach}
 use Rattle.histories.specs.Tracked.{Tracked}
 
 pub tracks_opened : {W : Type 0} (G : Guarded W) (words : List W) → length words ≡ 2048 → Tracked G opened words (λ r. nothing)

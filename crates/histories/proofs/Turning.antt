@@ -1,19 +1,19 @@
 -- Loads, layers and refreshes, on one register.
-use Rattle.std.proofs.Common.{◌≡◌, ℕ, zero, suc, pred, ◌*◌, ◌<◌, ◌≤◌, Bool, true, false, ltb, List, [], ◌∷◌, map, length, get_or, sym, refl, ap, ◌∙◌, subst, arith}
+use Rattle.std.proofs.Common.{◌≡◌, ℕ, suc, pred, ◌*◌, ◌<◌, true, false, List, map, length, get_or, sym, refl, ap, ◌∙◌}
 use lib.ListN.{length-map}
-use Rattle.std.proofs.lemmas.Bool.{true≢false, false≢true, and_parts, and_from, lt-ltb}
+use Rattle.std.proofs.lemmas.Bool.{false≢true}
 use Rattle.algebra.specs.declared.Direction.{Direction}
 use Rattle.algebra.specs.declared.Direction.TheVariants.{Forward, Inverse}
 use Rattle.guarded.specs.Model.{Guarded, Lawful}
 use Rattle.histories.specs.declared.register.Form.{Form}
-use Rattle.histories.specs.declared.register.Form.TheVariants.{Empty, Natural, Transformed}
+use Rattle.histories.specs.declared.register.Form.TheVariants.{Natural, Transformed}
 use Rattle.histories.specs.declared.register.Register.{Register}
 use Rattle.histories.specs.Operations.{neg, Good, remainders, layer_under, witness, inverse_of}
-use Rattle.histories.specs.Forms.{in_work, occupied, turns, done_of}
-use Rattle.histories.specs.Calls.{coefficients, checks, meanings, plains, residues, Kind, polynomial, transform, form_of, empty_record}
-use Rattle.histories.specs.Serves.{Meaning, Numbered, Loaded, loaded, turned}
+use Rattle.histories.specs.Forms.{in_work, turns, done_of}
+use Rattle.histories.specs.Calls.{coefficients, checks, meanings, residues, Kind, polynomial, transform, form_of, empty_record}
+use Rattle.histories.specs.Serves.{Meaning, Loaded, loaded, turned}
 use Rattle.histories.specs.Ledger.{Held, nothing, holds, Reach, unreached, reached, moved, put_in}
-use Rattle.histories.proofs.Asked.{Fine, expected, owed, Reduces, Transforms, Checks, Algebra}
+use Rattle.histories.proofs.Asked.{Fine, owed, Algebra}
 use Rattle.histories.proofs.Basics.{below_pred, every, flaw_none, every_at, remainders_good, map_polynomial}
 use Rattle.histories.proofs.Forms.{next, fine_next, occupied_next, layers_forward, layers_inverse, expected_idle}
 use Rattle.histories.proofs.Local.{Layered, Common, Kept, Tainted, Bond, Local, kept_carry, taint_carry}

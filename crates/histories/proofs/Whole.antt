@@ -1,5 +1,5 @@
 -- The algebra of every guarded ring, and so the theorem.
-use Rattle.std.proofs.Common.{◌≡◌, ℕ, zero, suc, pred, ◌+◌, ◌-◌, ◌*◌, ◌/◌, ◌%◌, ◌^◌, ◌<◌, ◌≤◌, ◌⊎◌, List, sym, refl, ap, ◌∙◌, subst, inl, inr, ⊎_elim, mod-eq_of_lt, arith}
+use Rattle.std.proofs.Common.{◌≡◌, ℕ, zero, suc, pred, ◌+◌, ◌*◌, ◌/◌, ◌%◌, ◌^◌, ◌<◌, sym, refl, ap, ◌∙◌, ⊎_elim, mod-eq_of_lt, arith}
 use native.Mathlib.Nat.{mod_self, add-mul-mod_self_left}
 use Rattle.algebra.specs.Congruence.{Same}
 use Rattle.algebra.proofs.Modular.{same_of, same_refl, same_sym, ◌⨾◌, same_by, same_add, same_mul_left, same_mul_right, same_pow}
@@ -8,8 +8,8 @@ use Rattle.algebra.proofs.Reduction.{same_divides}
 use Rattle.guarded.specs.Model.{Guarded, Lawful}
 use Rattle.histories.specs.Operations.{Base, neg, inverse_of_128}
 use Rattle.histories.specs.Calls.{coefficients, checks, meanings}
-use Rattle.histories.specs.Theorem.{Stands, Theorem}
-use Rattle.histories.proofs.Asked.{Reduces, Transforms, Checks, Algebra}
+use Rattle.histories.specs.Theorem.{Theorem}
+use Rattle.histories.proofs.Asked.{Reduces, Transforms, Algebra}
 use Rattle.histories.proofs.Forms.{done_most}
 use Rattle.histories.proofs.Cancelling.{cancel_add}
 use Rattle.histories.proofs.Stepped.{expected_good, expected_whole, steps}

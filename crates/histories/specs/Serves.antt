@@ -9,7 +9,7 @@ use Rattle.histories.specs.declared.register.Form.{Form}
 use Rattle.histories.specs.declared.register.Register.{Register}
 use Rattle.histories.specs.Operations.{Base, sum_of, difference_of, slot_product_of, layer_under, witness}
 use Rattle.histories.specs.Forms.{done_of, form_after, in_form}
-use Rattle.histories.specs.Calls.{coefficients, checks, meanings, State, empty_record, Kind, form_of, Operation, plus, minus, times, Call, load, turn, join, refresh, clear, release, ruling, plains, residues, word_rules}
+use Rattle.histories.specs.Calls.{checks, meanings, State, empty_record, Kind, form_of, Operation, plus, minus, times, Call, load, turn, join, refresh, clear, release, ruling, plains, residues, word_rules}
 
 -- what the caller hears: that it is done, the numbers and the form of a release, or a refusal
 pub data Answer : Type 0 where

@@ -1,12 +1,12 @@
 -- The theorem over every history of calls and strikes, for every guarded ring.
-use Rattle.std.specs.Prelude.{◌≡◌, ℕ, ◌/◌, Bool, true, false, not, ◌&&◌, ◌||◌, List, [], ◌∷◌, map, ◌==◌, ◌≢◌, nat_le}
+use Rattle.std.specs.Prelude.{◌≡◌, ℕ, ◌/◌, Bool, true, false, ◌&&◌, ◌||◌, List, [], ◌∷◌, map, ◌==◌, ◌≢◌, nat_le}
 use Rattle.std.proofs.Math.Option.{Option, none, some}
 use Rattle.algebra.specs.declared.Direction.{Direction}
 use Rattle.rings.specs.Refusals.{flaw}
 use Rattle.guarded.specs.Model.{Guarded, Lawful}
 use Rattle.histories.specs.Calls.{State, Kind, Operation, Call, load, turn, join, refresh, clear, release, differ, residues}
 use Rattle.histories.specs.Serves.{Answer, done, given, refused, is_refused}
-use Rattle.histories.specs.Ledger.{Event, History, ledger, Reads, Reach, unreached, reached, reach_at, Single}
+use Rattle.histories.specs.Ledger.{Event, History, ledger, Reads, unreached, reached, reach_at, Single}
 
 -- (a) No word of an unreached register is refused as stray, no release of it as fault; its accepted release hands out and answers what
 -- the ledger reads

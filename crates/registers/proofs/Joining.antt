@@ -1,14 +1,13 @@
 -- Registers whose words are the sums, differences or slot products of those of two registers.
-use Rattle.std.proofs.Common.{◌≡◌, ℕ, zero, suc, pred, ◌+◌, ◌-◌, ◌*◌, ◌%◌, ◌<◌, ◌≤◌, Bool, true, List, map, length, get_or, sym, refl, ap, ◌∙◌, subst, ap₂, arith}
+use Rattle.std.proofs.Common.{◌≡◌, ℕ, zero, suc, pred, ◌+◌, ◌-◌, ◌*◌, ◌%◌, ◌<◌, Bool, true, List, map, length, get_or, sym, ap, ◌∙◌, ap₂, arith}
 use mathlib.Core.Option.{none}
-use lib.ListN.{length-map}
 use Rattle.std.proofs.lemmas.List.{get_or-map}
 use Rattle.rings.specs.Refusals.{flaw}
 use Rattle.algebra.specs.Congruence.{Same}
 use Rattle.algebra.specs.Polynomials.{coefficient}
 use Rattle.algebra.proofs.Modular.{same_of, same_sym, same_mod, same_sub, ◌⨾◌}
 use Rattle.guarded.specs.Model.{Guarded, Lawful}
-use Rattle.histories.specs.Operations.{Base, neg, sum_of, difference_of}
+use Rattle.histories.specs.Operations.{neg, sum_of, difference_of}
 use Rattle.histories.specs.Calls.{part, meanings, plus, minus}
 use Rattle.histories.specs.Serves.{Meaning, combined}
 use Rattle.histories.proofs.Basics.{part_size}

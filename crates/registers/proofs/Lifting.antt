@@ -1,12 +1,12 @@
 -- Registers whose words were lifted, one after another.
-use Rattle.std.proofs.Common.{◌≡◌, ℕ, ◌+◌, ◌*◌, ◌%◌, ◌<◌, true, List, map, length, get_or, sym, refl, ap, ◌∙◌, arith}
+use Rattle.std.proofs.Common.{◌≡◌, ℕ, ◌+◌, ◌*◌, ◌%◌, ◌<◌, List, map, length, get_or, sym, ap, ◌∙◌, arith}
 use mathlib.Core.Option.{none}
 use lib.ListN.{length-map}
 use Rattle.std.proofs.lemmas.List.{get_or-map}
 use Rattle.rings.specs.Refusals.{flaw}
 use Rattle.algebra.proofs.Remainders.{known_by}
 use Rattle.guarded.specs.Model.{Guarded, Lawful, Lifted}
-use Rattle.histories.specs.Calls.{part, plains, residues}
+use Rattle.histories.specs.Calls.{part}
 use Rattle.histories.specs.Serves.{Meaning, Numbered}
 use Rattle.histories.proofs.Basics.{part_size}
 use Rattle.registers.specs.Rows.{Holding}

@@ -1,7 +1,5 @@
 -- Registers whose slots are the products of those of two registers.
-use Rattle.std.proofs.Common.{◌≡◌, ℕ, zero, suc, pred, ◌+◌, ◌*◌, ◌%◌, ◌^◌, ◌<◌, ◌≤◌, Bool, true, List, map, length, get_or, set, sym, refl, ap, ◌∙◌, subst, arith}
-use mathlib.Core.Option.{none}
-use Rattle.rings.specs.Refusals.{flaw}
+use Rattle.std.proofs.Common.{◌≡◌, ℕ, pred, ◌+◌, ◌*◌, ◌%◌, ◌^◌, ◌<◌, ◌≤◌, Bool, true, List, map, length, get_or, set, sym, refl, ap, ◌∙◌, subst, arith}
 use Rattle.algebra.specs.Congruence.{Same}
 use Rattle.algebra.specs.Layers.{bitrev}
 use Rattle.algebra.specs.Slots.{gamma}
@@ -13,7 +11,7 @@ use Rattle.algebra.proofs.Theorems.{products}
 use Rattle.engine.specs.Slots.{SlotProduct}
 use Rattle.engine.proofs.Slots.{gamma_by, other_root}
 use Rattle.guarded.specs.Model.{Guarded, Lawful}
-use Rattle.histories.specs.Operations.{neg, slot_product_of}
+use Rattle.histories.specs.Operations.{slot_product_of}
 use Rattle.histories.specs.Calls.{part, meanings, times}
 use Rattle.histories.specs.Serves.{Meaning, combined}
 use Rattle.histories.proofs.Basics.{part_size}

@@ -1,5 +1,5 @@
 -- A layer of a register: the part of the words that is lent to the engine, and what comes back.
-use Rattle.std.proofs.Common.{◌≡◌, ℕ, zero, suc, pred, ◌+◌, ◌-◌, ◌*◌, ◌^◌, ◌<◌, ◌≤◌, Bool, true, false, ◌⊎◌, List, map, length, get_or, take, drop, sym, refl, ap, ◌∙◌, subst, ⊎_elim, arith, length-drop, length-take}
+use Rattle.std.proofs.Common.{◌≡◌, ℕ, zero, suc, pred, ◌+◌, ◌-◌, ◌*◌, ◌^◌, ◌<◌, ◌≤◌, Bool, ◌⊎◌, List, map, length, get_or, take, drop, sym, ap, ◌∙◌, subst, ⊎_elim, arith, length-drop, length-take}
 use mathlib.Core.Option.{none}
 use borrow.Rule.Slice.PartMut.{put_mid, mid_of, same_len_mid}
 use Rattle.std.proofs.lemmas.List.{get_or-take, get_or-drop, get_or-map}
@@ -24,7 +24,7 @@ use Rattle.histories.specs.Serves.{Meaning}
 use Rattle.histories.proofs.Whole.{unit_of, full_odd}
 use Rattle.registers.specs.Rows.{Only}
 use Rattle.registers.proofs.Rows.{only_by}
-use Rattle.registers.proofs.Meanings.{meaning_by, some_word}
+use Rattle.registers.proofs.Meanings.{meaning_by}
 
 pub width : (a : ℕ) → a + 256 - a ≡ 256
 width a = omega arith

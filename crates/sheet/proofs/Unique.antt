@@ -6,7 +6,7 @@ use Rattle.rings.specs.declared.refusal.Refusal.{Refusal}
 use Rattle.sheet.specs.Bytes.{part}
 use Rattle.sheet.specs.Flaws.{flaw_at}
 use Rattle.sheet.specs.Written.{written}
-use Rattle.sheet.specs.Tiles.{offset, Tile, Ends, Tiled, OneTiling}
+use Rattle.sheet.specs.Tiles.{offset, Tile, Ends, OneTiling}
 use Rattle.sheet.proofs.Opening.{apart}
 
 -- as the code's own option

@@ -1,11 +1,10 @@
 -- From words of the plain ring modulo 3329 to polynomials, and back.
-use Rattle.std.proofs.Common.{◌≡◌, ℕ, pred, ◌+◌, ◌*◌, ◌^◌, ◌<◌, ◌≤◌, true, ◌&&◌, ltb, leb, List, length, get_or, sym, refl, ap, ◌∙◌, map-id, arith}
+use Rattle.std.proofs.Common.{◌≡◌, ℕ, ◌<◌, ◌≤◌, true, ◌&&◌, ltb, leb, List, length, get_or, sym, ap, map-id, arith}
 use mathlib.Core.Option.{none}
 use Rattle.std.proofs.lemmas.List.{get_or_default}
 use Rattle.std.proofs.lemmas.Bool.{lt-ltb, ltb-true, leb-true, and_parts}
-use Rattle.algebra.specs.Congruence.{Same}
 use Rattle.algebra.specs.Polynomials.{coefficient, listed, Polynomial}
-use Rattle.algebra.proofs.Modular.{same_of, same_sym, ◌⨾◌}
+use Rattle.algebra.proofs.Modular.{same_sym}
 use Rattle.algebra.proofs.Lists.{listed_is}
 use Rattle.rings.specs.Refusals.{flaw, below}
 use Rattle.rings.proofs.Flaws.{low_at}

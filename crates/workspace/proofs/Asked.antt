@@ -1,18 +1,17 @@
 -- What a call that was not refused has passed.
-use Rattle.std.proofs.Common.{◌≡◌, ℕ, zero, suc, pred, ◌*◌, ◌<◌, ◌≤◌, Bool, true, ◌&&◌, eqb, ltb, List, [], length, sym, refl, ap, ◌∙◌, subst, arith}
+use Rattle.std.proofs.Common.{◌≡◌, ℕ, zero, suc, pred, ◌<◌, true, List, length, sym, refl, subst, arith}
 use mathlib.Core.Option.{Option, none, some}
-use Rattle.std.proofs.lemmas.Bool.{eqb-true, ltb-true, and_parts}
+use Rattle.std.proofs.lemmas.Bool.{eqb-true, ltb-true}
 use Rattle.rings.specs.declared.refusal.Refusal.{Refusal}
-use Rattle.rings.specs.Refusals.{Check, first, Passes, flaw, below}
+use Rattle.rings.specs.Refusals.{first, Passes, flaw, below}
 use Rattle.rings.proofs.Flaws.{all_low}
-use Rattle.algebra.specs.Polynomials.{Polynomial}
 use Rattle.guarded.specs.Model.{Guarded, Lawful}
 use Rattle.histories.specs.declared.register.Form.{Form}
 use Rattle.histories.specs.declared.register.Form.TheVariants.{Empty, Natural, Transformed, Rising, Falling}
 use Rattle.histories.specs.declared.register.Register.{Register}
 use Rattle.histories.specs.Operations.{Base, neg, Good, witness, transform_of}
 use Rattle.histories.specs.Forms.{in_form, whole}
-use Rattle.histories.specs.Calls.{State, part, Call, load, join, refresh, release, joins, rules, word_rules, checks, Kind, Operation, plus, minus, times}
+use Rattle.histories.specs.Calls.{State, Call, load, join, refresh, release, joins, rules, word_rules, checks, Kind, Operation, plus, minus, times}
 use Rattle.histories.specs.Serves.{or}
 use Rattle.histories.proofs.Basics.{no_some, passes}
 use Rattle.algebra.proofs.Lists.{listed_polynomial}

@@ -1,5 +1,5 @@
 -- From what the code has done to what one call does.
-use Rattle.std.proofs.Common.{◌≡◌, ℕ, suc, ◌-◌, ◌*◌, ◌<◌, Bool, true, false, cond, eqb, List, [], ◌∷◌, map, length, sym, refl, ap, ◌∙◌, subst}
+use Rattle.std.proofs.Common.{◌≡◌, ℕ, Bool, true, false, cond, eqb, List, [], map, length, sym, refl, ap, ◌∙◌, subst}
 use mathlib.Core.Path.{fun_ext}
 use mathlib.Core.Option.{none, some}
 use Rattle.std.proofs.lemmas.Bool.{eqb-true}
@@ -13,11 +13,10 @@ use Rattle.rings.specs.Refusals.{number_of, place_of}
 use Rattle.guarded.specs.Model.{Guarded, Lawful}
 use Rattle.histories.specs.declared.register.Form.{Form}
 use Rattle.histories.specs.Operations.{Base, neg, inverse_of_128, layer_under, witness}
-use Rattle.histories.specs.Forms.{done_of, form_after, in_form}
+use Rattle.histories.specs.Forms.{form_after, in_form}
 use Rattle.histories.specs.Calls.{State, part, Call, load, turn, join, refresh, clear, release, form_of, ruling, plains, checks, meanings, empty_record, Kind, Operation}
 use Rattle.histories.specs.Serves.{done, given, refused, put, loaded, joined, combined, Meaning, Numbered, verdict, Serves, accepts, refuses}
-use Rattle.histories.specs.Ledger.{Event, History, goes}
-use Rattle.histories.specs.Theorem.{Stands}
+use Rattle.histories.specs.Ledger.{goes}
 use Rattle.histories.proofs.Whole.{whole}
 use Rattle.records.specs.Tables.{with_register, advanced, carried}
 use Rattle.records.specs.Turns.{Turns}

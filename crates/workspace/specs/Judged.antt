@@ -1,5 +1,5 @@
 -- What the theorem over histories says of one call, whatever led to it.
-use Rattle.std.specs.Prelude.{◌≡◌, ℕ, Bool, false, List, ◌∷◌, length}
+use Rattle.std.specs.Prelude.{◌≡◌, ℕ, Bool, false, List, length}
 use Rattle.guarded.specs.Model.{Guarded}
 use Rattle.histories.specs.Calls.{State, part, Call}
 use Rattle.histories.specs.Serves.{Answer}

@@ -1,8 +1,8 @@
-use Rattle.std.proofs.Common.{◌≡◌, ℕ, ◌-◌, sym, refl, ap, ◌∙◌, subst, arith}
+use Rattle.std.proofs.Common.{◌-◌, ◌∙◌, subst, arith}
 use Rattle.algebra.specs.declared.Direction.TheVariants.{Inverse}
 use Rattle.guarded.specs.Model.{guarded}
 use Rattle.records.specs.Tables.{state}
-use Rattle.decrypt_blinded.specs.Steps.{Turned, Summed, products}
+use Rattle.decrypt_blinded.specs.Steps.{Turned, products}
 use Rattle.decrypt_blinded.proofs.Stepping.{serves_in, finishes}
 use Rattle.decrypt_blinded.proofs.Finishing.{released, restored}
 use Rattle.decrypt_blinded.proofs.blinded.decrypt.Goals as goal

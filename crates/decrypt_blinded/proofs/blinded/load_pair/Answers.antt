@@ -1,4 +1,4 @@
-use Rattle.std.proofs.Common.{◌≡◌, ◌∙◌, subst, arith}
+use Rattle.std.proofs.Common.{◌∙◌, subst, arith}
 use Rattle.algebra.specs.declared.Direction.TheVariants.{Forward}
 use Rattle.guarded.specs.Model.{guarded}
 use Rattle.records.specs.Tables.{state}

@@ -1,9 +1,9 @@
-use Rattle.std.proofs.Common.{◌≡◌, ℕ, ◌+◌, ◌-◌, ◌*◌, List, sym, refl, ap, ◌∙◌, subst, arith}
+use Rattle.std.proofs.Common.{◌≡◌, ℕ, ◌-◌, sym, refl, ◌∙◌, subst, arith}
 use Rattle.std.proofs.lemmas.Result.{err_from_is_err_and}
 use Rattle.guarded.specs.Model.{guarded}
 use Rattle.histories.specs.Tracked.{Keeps}
 use Rattle.records.specs.Tables.{state}
-use Rattle.decrypt_blinded.specs.Steps.{Paired, Summed, products}
+use Rattle.decrypt_blinded.specs.Steps.{Paired, products}
 use Rattle.decrypt_blinded.specs.Decryption.{part}
 use Rattle.decrypt_blinded.proofs.Stepping.{serves_in, keeps_in, begins, continues_at, row_lent}
 use Rattle.decrypt_blinded.proofs.blinded.sum_products.Goals as goal

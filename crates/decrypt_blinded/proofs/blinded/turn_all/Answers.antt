@@ -1,4 +1,4 @@
-use Rattle.std.proofs.Common.{◌≡◌, sym, refl, ◌∙◌, arith}
+use Rattle.std.proofs.Common.{refl, ◌∙◌, arith}
 use Rattle.guarded.specs.Model.{guarded}
 use Rattle.decrypt_blinded.proofs.Stepping.{serves_in, turned_none, turned_more, turned_all}
 use Rattle.decrypt_blinded.proofs.blinded.turn_all.Goals as goal

@@ -1,4 +1,4 @@
-use Rattle.std.proofs.Common.{◌≡◌, ℕ, sym, subst}
+use Rattle.std.proofs.Common.{ℕ, sym, subst}
 use Rattle.guarded.specs.Model.{guarded}
 use Rattle.histories.specs.Calls.{State}
 use Rattle.histories.specs.Ledger.{nothing}

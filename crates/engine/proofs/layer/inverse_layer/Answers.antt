@@ -1,7 +1,4 @@
-use Rattle.std.proofs.Common.{◌≡◌, ℕ, pred, ◌-◌, sym, subst, arith}
-use Rattle.algebra.specs.declared.Direction.TheVariants.{Inverse}
-use Rattle.algebra.specs.Masks.{mask_after, InverseLayer}
-use Rattle.engine.specs.Rows.{held}
+use Rattle.std.proofs.Common.{arith}
 use Rattle.engine.proofs.Scaling.{scaled_last, unscaled_layer, went_back}
 use Rattle.engine.proofs.layer.inverse_layer.Goals as goal
 

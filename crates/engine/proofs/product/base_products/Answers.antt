@@ -1,6 +1,6 @@
 use Rattle.std.proofs.Common.{◌+◌, ◌*◌, sym, arith}
 use Rattle.engine.proofs.Rows.{held_at}
-use Rattle.engine.proofs.Slots.{slots_none, slots_more, slots_elements, slots_all, rev_small}
+use Rattle.engine.proofs.Slots.{slots_more, slots_elements, slots_all, rev_small}
 use Rattle.engine.proofs.product.base_products.Goals as goal
 
 pub overflow_mul-reversed : goal.overflow_mul-reversed

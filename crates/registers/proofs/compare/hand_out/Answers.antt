@@ -1,4 +1,4 @@
-use Rattle.std.proofs.Common.{◌≡◌, sym, arith}
+use Rattle.std.proofs.Common.{sym, arith}
 use Rattle.registers.proofs.Reading.{read_sound}
 use Rattle.registers.proofs.Lists.{written_more, rest_of}
 use Rattle.registers.proofs.compare.hand_out.Goals as goal

@@ -1,4 +1,4 @@
-use Rattle.std.proofs.Common.{◌≡◌, sym, ◌∙◌, arith}
+use Rattle.std.proofs.Common.{◌∙◌, arith}
 use Rattle.registers.proofs.Reading.{read_sound}
 use Rattle.registers.proofs.Lists.{fault_at, no_fault}
 use Rattle.registers.proofs.compare.residues_agree.Goals as goal

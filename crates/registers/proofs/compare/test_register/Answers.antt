@@ -1,4 +1,4 @@
-use Rattle.std.proofs.Common.{◌≡◌, sym, arith}
+use Rattle.std.proofs.Common.{sym, arith}
 use Rattle.registers.proofs.Reading.{stray_at, all_sound}
 use Rattle.registers.proofs.compare.test_register.Goals as goal
 

@@ -1,4 +1,4 @@
-use Rattle.std.proofs.Common.{◌<◌, mod-lt, arith, lit<}
+use Rattle.std.proofs.Common.{mod-lt, arith, lit<}
 use Rattle.rings.proofs.Flaws.{low_at}
 use Rattle.guarded.specs.Model.{guarded}
 use Rattle.registers.proofs.Rows.{filled_none, filled_more, filled_all, only_filled}

@@ -1,4 +1,4 @@
-use Rattle.std.proofs.Common.{◌≡◌, ℕ, sym, refl, subst, arith}
+use Rattle.std.proofs.Common.{arith}
 use Rattle.registers.proofs.Lists.{placed_more}
 use Rattle.registers.proofs.fill.wipe.Goals as goal
 

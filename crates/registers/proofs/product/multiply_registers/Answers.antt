@@ -1,4 +1,4 @@
-use Rattle.std.proofs.Common.{◌≡◌, ℕ, ◌+◌, ◌*◌, ◌<◌, ◌≤◌, get_or, arith}
+use Rattle.std.proofs.Common.{◌+◌, ◌*◌, ◌<◌, arith}
 use Rattle.engine.proofs.Slots.{rev_small}
 use Rattle.guarded.specs.Model.{guarded}
 use Rattle.registers.proofs.Rows.{filled_none, filled_all, only_filled}

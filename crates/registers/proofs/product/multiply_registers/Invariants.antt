@@ -1,4 +1,4 @@
-use Rattle.std.proofs.Common.{ℕ, ◌*◌, List, map}
+use Rattle.std.proofs.Common.{ℕ, ◌*◌, map}
 use Rattle.algebra.specs.Polynomials.{coefficient}
 use Rattle.histories.specs.Calls.{part}
 use Rattle.registers.proofs.Rows.{Filled}

@@ -1,4 +1,4 @@
-use Rattle.std.proofs.Common.{◌≡◌, length, ◌∙◌, arith}
+use Rattle.std.proofs.Common.{◌≡◌, length, ◌∙◌}
 use Rattle.guarded.specs.Model.{guarded}
 use Rattle.registers.proofs.Turning.{lent_size, lent_elements, returned_only, forward_placed, inverse_placed}
 use Rattle.registers.proofs.turn.turn_register.Goals as goal

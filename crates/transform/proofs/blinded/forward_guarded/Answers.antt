@@ -1,4 +1,4 @@
-use Rattle.std.proofs.Common.{◌≡◌, suc, pred, ◌*◌, ◌<◌, length, arith, rules}
+use Rattle.std.proofs.Common.{◌≡◌, suc, pred, ◌*◌, length, arith}
 use Rattle.std.proofs.lemmas.Bool.{eqb-true}
 use Rattle.rings.proofs.Flaws.{passes}
 use Rattle.guarded.specs.Model.{guarded}

@@ -1,6 +1,6 @@
-use Rattle.std.proofs.Common.{◌*◌, ◌<◌, refl, mul-le-mul_left, arith, lit<}
+use Rattle.std.proofs.Common.{◌*◌, ◌<◌, mul-le-mul_left, arith, lit<}
 use native.Mathlib.Nat.{div-lt_self}
-use Rattle.guarded.specs.ModuliLemmas.{known_above, known_fits, known_most}
+use Rattle.guarded.specs.ModuliLemmas.{known_above}
 use Rattle.guarded.proofs.redundant.arithmetic.made.Goals as goal
 
 pub overflow_cast-reciprocal-2 : goal.overflow_cast-reciprocal-2

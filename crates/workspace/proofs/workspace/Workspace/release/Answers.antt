@@ -1,6 +1,5 @@
-use Rattle.std.proofs.Common.{◌≡◌, refl, arith}
+use Rattle.std.proofs.Common.{refl}
 use Rattle.std.proofs.lemmas.Result.{err_from_is_err_and}
-use Rattle.guarded.specs.Model.{guarded}
 use Rattle.workspace.proofs.Asked.{or_some}
 use Rattle.workspace.proofs.Served.{refuses_at, releases, judged}
 use Rattle.workspace.proofs.workspace.Workspace.release.Goals as goal

@@ -1,4 +1,4 @@
-use Rattle.std.proofs.Common.{◌≡◌, ◌+◌, ◌-◌, ◌*◌, ◌<◌, arith, rules}
+use Rattle.std.proofs.Common.{◌*◌, ◌<◌, arith, rules}
 use Rattle.std.proofs.lemmas.Bool.{lt-ltb, ltb-true}
 use Rattle.algebra.proofs.Remainders.{less_low, less_high, less_up, less_down}
 use Rattle.guarded.specs.ModuliLemmas.{known_above}

@@ -1,4 +1,4 @@
-use Rattle.std.proofs.Common.{◌≡◌, ◌+◌, ◌-◌, ◌*◌, ◌<◌, ◌≤◌, sym, mod-eq_of_lt, arith, rules}
+use Rattle.std.proofs.Common.{◌+◌, ◌-◌, ◌*◌, ◌<◌, sym, mod-eq_of_lt, arith}
 use Rattle.std.proofs.lemmas.Bool.{lt-ltb, ltb-true}
 use Rattle.algebra.proofs.Remainders.{sum_low, sum_high, add_high}
 use Rattle.guarded.proofs.redundant.arithmetic.RedundantRing.sum.Goals as goal
