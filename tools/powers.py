@@ -32,13 +32,13 @@ def table(name, word, modulus, root):
         f"const {name}: [{word}; 256] = [\n{rows}];\n\n"
         f"/// {root} to the power of e, modulo {modulus}.\n"
         f"pub fn {function}(e: u8) -> {word}\n"
-        f"    ensures {{ λ r. ⌜ r ≡ ({root} ^ e) % {modulus} ⌝ }}\n"
+        f"    ensures {{ result ≡ ({root} ^ e) % {modulus} }}\n"
         f"{{\n    {name}[e as usize]\n}}\n"
     )
 
 
 def main():
-    head = "// Written by tools/powers.py.\nghost use mathlib.Core.Path.{_≡_};\nghost use Prim.Native.Nat.{_%_, _^_};\n\n"
+    head = "#![tactic(auto)]\n\n// Written by tools/powers.py.\nghost use Rattle.std.specs.Prelude.{◌≡◌, ◌%◌, ◌^◌};\n\n"
     tables = [table(name, "u16", modulus, root) for name, modulus, root in PLAIN]
     tables += [table(name, "u32", modulus, root) for name, modulus, root in JOINT]
     with open("crates/roots/src/lib.rt", "w") as out:

@@ -22,17 +22,17 @@ fn run(rt: &HostRuntime) -> anyhow::Result<()> {
     let text = io::read_to_string(rt.alloc(), rt.stdin())?;
     let all = numbers(rt.alloc(), text.as_str())?;
     let [first, rest @ ..] = all.as_slice() else {
-        return Err(anyhow!("the input is empty"));
+        return Err(anyhow!("\"the input is empty\""));
     };
     let rank = match *first {
         2 => 2u8,
         3 => 3,
         4 => 4,
-        _ => return Err(anyhow!("the rank is not 2, 3 or 4")),
+        _ => return Err(anyhow!("\"the rank is not 2, 3 or 4\"")),
     };
     let row = 256 * rank as usize;
     if rest.len() != 2 * row + 256 {
-        return Err(anyhow!("the input has not 2 k + 1 polynomials of 256 coefficients"));
+        return Err(anyhow!("\"the input has not 2 k + 1 polynomials of 256 coefficients\""));
     }
     println!(rt;
         "rank {rank}: read {rank} polynomials u, {rank} transformed polynomials s and the polynomial v"
@@ -43,7 +43,7 @@ fn run(rt: &HostRuntime) -> anyhow::Result<()> {
         &rest[row..2 * row],
         &rest[2 * row..2 * row + 256],
     ) else {
-        return Err(anyhow!("a coefficient is above 3328"));
+        return Err(anyhow!("\"a coefficient is above 3328\""));
     };
     println!(rt; "computed v minus the sum of u[i] * s[i], modulo X^256 + 1 and 3329")?;
     print!(rt; "message ")?;

@@ -31,7 +31,7 @@ fn bytes(heap: Global, numbers: &[u16]) -> anyhow::Result<Vec<u8>>
     let mut all = Vec::new(heap);
     for n in numbers {
         if *n > 255 {
-            return Err(anyhow!("a random byte is above 255"));
+            return Err(anyhow!("\"a random byte is above 255\""));
         }
         all.push(*n as u8)?;
     }
@@ -111,13 +111,13 @@ fn decrypt_numbers(rt: &HostRuntime, rank: usize, numbers: &[u16]) -> anyhow::Re
     let random = 612 * rank + 354;
     if numbers.len() != 2 + rows + 2 * random {
         return Err(anyhow!(
-            "the input has not p, t, 2 k + 1 polynomials and two lists of 612 k + 354 bytes"
+            "\"the input has not p, t, 2 k + 1 polynomials and two lists of 612 k + 354 bytes\""
         ));
     }
     let p = numbers[0];
     let t = numbers[1];
     if t > 255 {
-        return Err(anyhow!("t is above 255"));
+        return Err(anyhow!("\"t is above 255\""));
     }
     let masked = bytes(rt.alloc(), &numbers[2 + rows..2 + rows + random])?;
     let paired = bytes(
@@ -125,10 +125,10 @@ fn decrypt_numbers(rt: &HostRuntime, rank: usize, numbers: &[u16]) -> anyhow::Re
         &numbers[2 + rows + random..2 + rows + 2 * random],
     )?;
     let Ok(redundant) = Redundant::approve(p as u32, t as u8) else {
-        return Err(anyhow!("p or t is not approved"));
+        return Err(anyhow!("\"p or t is not approved\""));
     };
     let Ok(pair) = Pair::approve(p as u32) else {
-        return Err(anyhow!("p is not approved"));
+        return Err(anyhow!("\"p is not approved\""));
     };
     println!(rt;
         "rank {rank}, p = {p}, t = {t}: read {rank} polynomials u, {rank} transformed polynomials s and the polynomial v"
@@ -148,11 +148,11 @@ fn run(rt: &HostRuntime) -> anyhow::Result<()> {
     let text = io::read_to_string(rt.alloc(), rt.stdin())?;
     let all = numbers(rt.alloc(), text.as_str())?;
     let [first, rest @ ..] = all.as_slice() else {
-        return Err(anyhow!("the input is empty"));
+        return Err(anyhow!("\"the input is empty\""));
     };
     match *first {
         2..=4 => decrypt_numbers(rt, *first as usize, rest),
-        _ => Err(anyhow!("the rank is not 2, 3 or 4")),
+        _ => Err(anyhow!("\"the rank is not 2, 3 or 4\"")),
     }
 }
 

@@ -2,7 +2,7 @@ ghost use Rattle.std.specs.Prelude.{◌≡◌, ◌&&◌, [], ◌∷◌, length, 
 ghost use Rattle.algebra.specs.Masks.{suits};
 ghost use Rattle.rings.specs.declared.refusal.Refusal.TheVariants as refuse;
 ghost use Rattle.rings.specs.Refusals.{first, test as checked, scan, flaw, below};
-ghost use Rattle.histories.specs.Calls.{sized as is_sized, known as is_Known, digits as are_digits};
+ghost use Rattle.histories.specs.Calls.{sized as is_sized, known as is_known, digits as are_digits};
 ghost use Rattle.histories.specs.Answers.{complaint};
 
 use engine::masks::suit;
@@ -21,7 +21,7 @@ pub(crate) fn sized(n: usize, wanted: usize, position: u8) -> Result<(), Refusal
 
 /// One of the eight registers.
 pub(crate) fn known(r: u8) -> Result<(), Refusal>
-    ensures { complaint result ≡ first (is_Known r ∷ []) }
+    ensures { complaint result ≡ first (is_known r ∷ []) }
 {
     if r >= 8 {
         return Err(Refusal::Register(r));
