@@ -11,21 +11,20 @@ the three, a line of it is changed so that a value is used after it is gone;
 the compiler must say so and name the value.  Since the library is proved as
 it stands, the change alone is what is refused.
 
-The crates of this repository are copied to a temporary folder, where the
-library is one crate more, and `rt check` runs there.  Exit status 1 if any of
-the answers is another.
+The library is written to a temporary folder and checked against the crates
+that `rt ci` has built in this repository, so `rt ci` comes first.  Exit status
+1 if any of the answers is another.
 """
 
 import pathlib
-import shutil
 import subprocess
 import sys
 import tempfile
 
-from run_program import ROOT, readable
+from run_program import ROOT, SECONDS, readable
 
-# Far above what a check needs, also where the crates below are proved first.
-SECONDS = 3000
+# The crates whose names the library below writes; the others are found by -L.
+NAMED = ["guarded", "rings", "workspace"]
 
 LIBRARY = """\
 #![tactic(auto)]
@@ -70,27 +69,39 @@ CHANGES = [
 ]
 
 
-def copied(folder):
-    """The crates of this repository in that folder, with one more for the library: the folder of that one."""
-    shutil.copytree(ROOT / "crates", folder / "crates", ignore=shutil.ignore_patterns("out"))
-    crate = folder / "crates" / "moves"
-    (crate / "src").mkdir(parents=True)
-    listed = (ROOT / "crates.txt").read_text(encoding="ascii")
-    (folder / "crates.txt").write_text(listed + "moves: guarded rings workspace\n", encoding="ascii")
-    return crate
+def built(name):
+    """Where `rt ci` leaves a crate for those that use it."""
+    return ROOT / "crates" / name / "out" / "rlib" / f"{name}.rlib"
 
 
-def checked(crate, text):
+def command(source):
+    """The check of a library `moves` with this root file, as `rt check` makes it: over the kit's logic and libraries."""
+    page = subprocess.run(["rt", "doc"], stdout=subprocess.PIPE, check=True).stdout
+    kit = pathlib.Path(readable(page).strip()).parent
+    words = ["rattle", "check", "--crate-name", "moves",
+             "--antt-project", str(kit / "rattle" / "logic" / "antt-project.json"),
+             "--logic-built", str(kit / "logic_built"),
+             "--extern", f"std={kit / 'rlibs' / 'std.rlib'}", "-L", f"dependency={kit / 'rlibs'}"]
+    for folder in sorted(ROOT.glob("crates/*/out/rlib")):
+        words += ["-L", f"dependency={folder}"]
+    for name in NAMED:
+        words += ["--extern", f"{name}={built(name)}"]
+    return words + [str(source)]
+
+
+def checked(text):
     """The status and the output of a check of the library with this text."""
-    (crate / "src" / "lib.rt").write_text(text, encoding="ascii")
-    try:
-        done = subprocess.run(["rt", "check"], cwd=crate, stdout=subprocess.PIPE,
-                              stderr=subprocess.STDOUT, timeout=SECONDS)
-    except OSError as error:
-        raise SystemExit(f"cannot run rt: {error.strerror}")
-    except subprocess.TimeoutExpired:
-        raise SystemExit(f"rt check did not end within {SECONDS} seconds")
-    return done.returncode, readable(done.stdout)
+    with tempfile.TemporaryDirectory() as folder:
+        source = pathlib.Path(folder) / "src" / "lib.rt"
+        source.parent.mkdir()
+        source.write_text(text, encoding="ascii")
+        try:
+            done = subprocess.run(command(source), stdout=subprocess.PIPE, stderr=subprocess.STDOUT, timeout=SECONDS)
+        except OSError as error:
+            raise SystemExit(f"cannot run the check: {error.strerror}")
+        except subprocess.TimeoutExpired:
+            raise SystemExit(f"the check did not end within {SECONDS} seconds")
+        return done.returncode, readable(done.stdout)
 
 
 def changed(old, new):
@@ -105,16 +116,16 @@ def report(name, holds, wanted, output):
 
 
 def main():
-    with tempfile.TemporaryDirectory() as folder:
-        crate = copied(pathlib.Path(folder))
-        status, output = checked(crate, LIBRARY)
-        all_hold = report("each ring and each workspace used once",
-                          status == 0 and "logic=proved functions=3 " in output, "proved", output)
-        for name, old, new, value in CHANGES:
-            status, output = checked(crate, changed(old, new))
-            # the compiler says 'use of' or 'borrow of', by what is done with the value
-            refused = status != 0 and f"of moved value: `{value}`" in output
-            all_hold &= report(name, refused, f"refused, for `{value}` is gone", output)
+    if not built("workspace").is_dir():
+        raise SystemExit("the crate workspace is not built: run rt ci first")
+    status, output = checked(LIBRARY)
+    all_hold = report("each ring and each workspace used once",
+                      status == 0 and "logic=proved functions=3 " in output, "proved", output)
+    for name, old, new, value in CHANGES:
+        status, output = checked(changed(old, new))
+        # the compiler says 'use of' or 'borrow of', by what is done with the value
+        refused = status != 0 and f"of moved value: `{value}`" in output
+        all_hold &= report(name, refused, f"refused, for `{value}` is gone", output)
     return 0 if all_hold else 1
 
 
