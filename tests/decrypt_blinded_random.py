@@ -9,16 +9,14 @@ OpenSSL's shared secret.
 Where `cryptography` has no ML-KEM, only the stored example is run.
 """
 
-import argparse
-import pathlib
 import re
 import secrets
 
 import fips203
-from decrypt_random import at_least_one, keep, print_loud_note, run_stored_example
+from decrypt_random import keep, run_tests
 from make_decrypt_blinded_example import draw_input, program_output
-from make_decrypt_example import make_example, openssl_has_ml_kem
-from run_program import ROOT, built, run_program
+from make_decrypt_example import make_example
+from run_program import ROOT, run_program
 
 CRATE = ROOT / "crates" / "decrypt_blinded"
 
@@ -61,22 +59,5 @@ def run_fresh_examples(program, count):
         print(f"{params.name}: {count} fresh examples on two rings, each message gives OpenSSL's shared secret")
 
 
-def read_arguments():
-    parser = argparse.ArgumentParser(description="run decrypt_blinded on fresh ML-KEM examples")
-    parser.add_argument("program", nargs="?", type=pathlib.Path, default=built("decrypt_blinded"))
-    parser.add_argument("--count", type=at_least_one, default=5,
-                        help="how many examples of each size")
-    return parser.parse_args()
-
-
-def main():
-    arguments = read_arguments()
-    if openssl_has_ml_kem():
-        run_fresh_examples(arguments.program, arguments.count)
-    else:
-        print_loud_note()
-        run_stored_example(arguments.program, CRATE)
-
-
 if __name__ == "__main__":
-    main()
+    run_tests("decrypt_blinded", run_fresh_examples, CRATE)

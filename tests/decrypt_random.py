@@ -87,22 +87,19 @@ def at_least_one(text):
     return count
 
 
-def read_arguments():
-    parser = argparse.ArgumentParser(description="run decrypt on fresh ML-KEM examples")
-    parser.add_argument("program", nargs="?", type=pathlib.Path, default=built("decrypt"))
+def run_tests(name, run_fresh, stored):
+    """Runs the program of that name on fresh examples, or on the stored one where none can be made."""
+    parser = argparse.ArgumentParser(description=f"run {name} on fresh ML-KEM examples")
+    parser.add_argument("program", nargs="?", type=pathlib.Path, default=built(name))
     parser.add_argument("--count", type=at_least_one, default=5,
                         help="how many examples of each size")
-    return parser.parse_args()
-
-
-def main():
-    arguments = read_arguments()
+    arguments = parser.parse_args()
     if openssl_has_ml_kem():
-        run_fresh_examples(arguments.program, arguments.count)
+        run_fresh(arguments.program, arguments.count)
     else:
         print_loud_note()
-        run_stored_example(arguments.program, CRATE)
+        run_stored_example(arguments.program, stored)
 
 
 if __name__ == "__main__":
-    main()
+    run_tests("decrypt", run_fresh_examples, CRATE)

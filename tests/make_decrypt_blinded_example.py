@@ -10,13 +10,10 @@ What blinds the calculation (witnesses, redundancy bytes, masks) is drawn at
 random here; it must not change the message.
 """
 
-import argparse
-import pathlib
 import secrets
 from typing import NamedTuple
 
-import fips203
-from make_decrypt_example import CheckFailed, make_example, numbers, openssl_has_ml_kem
+from make_decrypt_example import argument_parser, numbers, write_example
 
 
 class Blinding(NamedTuple):
@@ -88,31 +85,14 @@ def program_output(example, p, t):
     return "".join(line + "\n" for line in lines)
 
 
-def read_arguments():
-    parser = argparse.ArgumentParser(description="make an example of the program decrypt_blinded")
-    parser.add_argument("stdin_file", type=pathlib.Path, help="gets the program's standard input")
-    parser.add_argument("stdout_file", type=pathlib.Path, help="gets the expected standard output")
-    parser.add_argument("--k", type=int, choices=sorted(fips203.PARAMETER_SETS), default=3,
-                        help="the rank: 3 is ML-KEM-768, 4 is ML-KEM-1024")
+def main():
+    parser = argument_parser("decrypt_blinded")
     parser.add_argument("--p", type=int, choices=(7681, 12289), default=7681,
                         help="the check modulus")
     parser.add_argument("--t", type=int, default=3, help="the redundancy number")
-    return parser.parse_args()
-
-
-def main():
-    arguments = read_arguments()
-    if not openssl_has_ml_kem():
-        raise SystemExit("make_decrypt_blinded_example.py: this `cryptography` has no ML-KEM; nothing written")
-    try:
-        example = make_example(arguments.k)
-        texts = (draw_input(example, arguments.p, arguments.t),
-                 program_output(example, arguments.p, arguments.t))
-    except CheckFailed as failure:
-        raise SystemExit(f"make_decrypt_blinded_example.py: CHECK FAILED, nothing written: {failure}")
-    arguments.stdin_file.write_text(texts[0], encoding="ascii")
-    arguments.stdout_file.write_text(texts[1], encoding="ascii")
-    print(f"{example.params.name}: wrote {arguments.stdin_file} and {arguments.stdout_file}")
+    arguments = parser.parse_args()
+    p, t = arguments.p, arguments.t
+    write_example(arguments, lambda example: (draw_input(example, p, t), program_output(example, p, t)))
 
 
 if __name__ == "__main__":

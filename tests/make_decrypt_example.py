@@ -14,6 +14,7 @@ nothing is written.
 
 import argparse
 import pathlib
+import sys
 from typing import NamedTuple
 
 import fips203
@@ -128,27 +129,34 @@ def program_output(example):
     return "".join(line + "\n" for line in lines)
 
 
-def read_arguments():
-    parser = argparse.ArgumentParser(description="make an example of the program decrypt")
+def argument_parser(name):
+    """The arguments that an example of any of the programs takes."""
+    parser = argparse.ArgumentParser(description=f"make an example of the program {name}")
     parser.add_argument("stdin_file", type=pathlib.Path, help="gets the program's standard input")
     parser.add_argument("stdout_file", type=pathlib.Path, help="gets the expected standard output")
     parser.add_argument("--k", type=int, choices=sorted(fips203.PARAMETER_SETS), default=3,
                         help="the rank: 3 is ML-KEM-768, 4 is ML-KEM-1024")
-    return parser.parse_args()
+    return parser
+
+
+def write_example(arguments, texts_of):
+    """Makes an example and writes its two texts, or nothing if a check fails."""
+    script = pathlib.Path(sys.argv[0]).name
+    if not openssl_has_ml_kem():
+        raise SystemExit(f"{script}: this `cryptography` has no ML-KEM; nothing written")
+    try:
+        example = make_example(arguments.k)
+        given, wanted = texts_of(example)
+    except CheckFailed as failure:
+        raise SystemExit(f"{script}: CHECK FAILED, nothing written: {failure}")
+    arguments.stdin_file.write_text(given, encoding="ascii")
+    arguments.stdout_file.write_text(wanted, encoding="ascii")
+    print(f"{example.params.name}: wrote {arguments.stdin_file} and {arguments.stdout_file}")
 
 
 def main():
-    arguments = read_arguments()
-    if not openssl_has_ml_kem():
-        raise SystemExit("make_decrypt_example.py: this `cryptography` has no ML-KEM; nothing written")
-    try:
-        example = make_example(arguments.k)
-        texts = program_input(example), program_output(example)
-    except CheckFailed as failure:
-        raise SystemExit(f"make_decrypt_example.py: CHECK FAILED, nothing written: {failure}")
-    arguments.stdin_file.write_text(texts[0], encoding="ascii")
-    arguments.stdout_file.write_text(texts[1], encoding="ascii")
-    print(f"{example.params.name}: wrote {arguments.stdin_file} and {arguments.stdout_file}")
+    write_example(argument_parser("decrypt").parse_args(),
+                  lambda example: (program_input(example), program_output(example)))
 
 
 if __name__ == "__main__":
