@@ -17,6 +17,21 @@ abbrev pub guarded : {S W : Type 0} (check redundancy root : S → ℕ) (element
 guarded check redundancy root element meaning number s =
     record { p = check s; t = redundancy s; w = root s; element = element s; meaning = meaning s; number = number s }
 
+-- the same of the record of all of a type's ghost members, as `model G.GuardedRing ring.now` under a bound `G: GuardedRing`
+abbrev pub model :
+    {S W : Type 0} →
+    record {
+      modulus : S → ℕ;
+      root : S → ℕ;
+      element : S → W → Bool;
+      meaning : S → W → ℕ;
+      check : S → ℕ;
+      redundancy : S → ℕ;
+      number : S → W → ℕ;
+    } →
+    S → Guarded W
+model R s = guarded R.check R.redundancy R.root R.element R.meaning R.number s
+
 pub record Lawful {W : Type 0} (G : Guarded W) : Type 0 where
   pub above : 3329 < G.p
   pub fits : G.p < 2 ^ 32

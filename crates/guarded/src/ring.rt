@@ -1,5 +1,5 @@
 ghost use Rattle.std.specs.Prelude.{◌≡◌, ℕ, ◌*◌, ◌%◌, ◌<◌, true};
-ghost use Rattle.guarded.specs.Model.{guarded, Lawful, Lifted, RoundTrips};
+ghost use Rattle.guarded.specs.Model.{guarded, model, Lawful, Lifted, RoundTrips};
 
 use rings::Ring;
 
@@ -39,7 +39,7 @@ pub trait GuardedRing: Ring {
 
 /// For every guarded ring: lift and split undo each other.
 pub fn round_trips_stand<G: GuardedRing>() -> u8
-    ensures { (s : G) → RoundTrips (guarded G.check G.redundancy G.root G.element G.meaning G.number s) }
+    ensures { (s : G) → RoundTrips (model G.GuardedRing s) }
 {
     0
 }

@@ -7,3 +7,4 @@ pub mod Theorem
 pub mod Answers
 pub mod Tracked
 pub mod Kinds
+pub mod Indices

@@ -1,3 +1,5 @@
+use crate::index::Index;
+
 /// What is loaded into a register: a polynomial, or a transform.
 #[derive(Clone, Copy, PartialEq, Eq, Debug)]
 pub enum Kind {
@@ -11,4 +13,13 @@ pub enum Operation {
     Plus,
     Minus,
     Times,
+}
+
+/// What joins two registers: d gets the sum, the difference or the product of a and b.
+#[derive(Clone, Copy, PartialEq, Eq, Debug)]
+pub struct Join {
+    pub operation: Operation,
+    pub d: Index,
+    pub a: Index,
+    pub b: Index,
 }

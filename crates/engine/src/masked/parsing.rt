@@ -1,0 +1,18 @@
+ghost use Rattle.engine.specs.Numbers.{Numbers};
+
+use super::Layer;
+use rings::Refusal;
+
+impl TryFrom<u8> for Layer {
+    type Error = Refusal;
+
+    ghost try_from_gives = { Numbers };
+
+    fn try_from(number: u8) -> Result<Layer, Refusal> {
+        if 1 <= number && number <= 7 {
+            Ok(Layer { number })
+        } else {
+            Err(Refusal::Layer)
+        }
+    }
+}
