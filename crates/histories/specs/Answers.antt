@@ -1,15 +1,10 @@
 -- What the results of the code answer.
 use Rattle.std.specs.Prelude.{ℕ, List, Ok, Err, Result}
-use Rattle.std.proofs.Math.Option.{Option, none, some}
 use Rattle.rings.specs.declared.refusal.Refusal.{Refusal}
 use Rattle.rings.specs.Refusals.{number_of, place_of}
+pub use Rattle.rings.specs.Refusals.{complaint}
 use Rattle.histories.specs.declared.register.Form.{Form}
 use Rattle.histories.specs.Serves.{Answer, done, given, refused}
-
--- the refusal, if there is one
-abbrev pub complaint : {X : Type 0} → Result X Refusal → Option Refusal
-complaint (Ok x) = none
-complaint (Err why) = some why
 
 -- the answer of a call that hands out nothing
 abbrev pub told : {X : Type 0} → Result X Refusal → Answer

@@ -57,6 +57,11 @@ abbrev pub answer : {X : Type 0} → Result X Refusal → Answer
 answer (Ok x) = accepted
 answer (Err e) = refused (number_of e) (place_of e)
 
+-- the refusal, if there is one
+abbrev pub complaint : {X : Type 0} → Result X Refusal → Option Refusal
+complaint (Ok x) = none
+complaint (Err why) = some why
+
 -- a check of a call: a test that has to be true, or a search that has to find no place, each with the complaint that it makes
 pub data Check (A : Type 0) : Type 0 where
   test : Bool → A → Check A

@@ -1,5 +1,6 @@
 #![tactic(auto)]
 
+pub mod checks;
 pub mod plain;
 pub mod reduction;
 pub mod refusal;

@@ -1,5 +1,8 @@
-ghost use Rattle.std.specs.Prelude.{◌≡◌};
+ghost use Rattle.std.specs.Prelude.{◌≡◌, ◌++◌, Some, codes, decimal};
 ghost use Rattle.rings.specs.Refusals.{number_of, place_of};
+
+use std::error::Error;
+use std::fmt;
 
 /// Why a call is refused, with the place that its number asks for.
 #[derive(Clone, Copy, PartialEq, Eq, Debug)]
@@ -100,3 +103,13 @@ impl Refusal {
         }
     }
 }
+
+impl fmt::Display for Refusal {
+    ghost output = { λ e. Some (codes "number " ++ decimal (number_of e) ++ codes ", place " ++ decimal (place_of e)) };
+
+    fn fmt<W: fmt::Write>(&self, f: &mut fmt::Formatter<W>) -> fmt::Result {
+        write!(f, "number {}, place {}", self.number(), self.place())
+    }
+}
+
+impl Error for Refusal {}
