@@ -1,5 +1,7 @@
-ghost use Rattle.std.specs.Prelude.{◌≡◌, ◌<◌, ◌≤◌};
+ghost use Rattle.std.specs.Prelude.{◌≡◌, ◌<◌};
 ghost use Rattle.algebra.specs.Layers.{bitrev, forward_len, forward_groups, inverse_len, inverse_groups};
+
+use crate::masked::Layer;
 
 const REVERSED: [u8; 128] = [
     0, 64, 32, 96, 16, 80, 48, 112, 8, 72, 40, 104, 24, 88, 56, 120, 4, 68, 36, 100, 20, 84, 52,
@@ -18,50 +20,32 @@ pub fn reversed(x: u8) -> u8
     REVERSED[x as usize]
 }
 
-/// Half the positions of a group of forward layer `layer`.
-pub(crate) fn forward_half(layer: u8) -> usize
-    requires { (1 ≤ layer) × (layer ≤ 7) }
-    ensures { result ≡ forward_len layer }
-{
-    match layer {
-        1 => 128,
-        2 => 64,
-        3 => 32,
-        4 => 16,
-        5 => 8,
-        6 => 4,
-        _ => 2,
+impl Layer {
+    /// Half the positions of a group of this forward layer.
+    pub(crate) fn forward_half(self) -> usize
+        ensures { result ≡ forward_len self.number }
+    {
+        1 << (8 - self.number)
     }
-}
 
-/// The number of groups of forward layer `layer`.
-pub(crate) fn forward_count(layer: u8) -> usize
-    requires { (1 ≤ layer) × (layer ≤ 7) }
-    ensures { result ≡ forward_groups layer }
-{
-    match layer {
-        1 => 1,
-        2 => 2,
-        3 => 4,
-        4 => 8,
-        5 => 16,
-        6 => 32,
-        _ => 64,
+    /// The number of groups of this forward layer.
+    pub(crate) fn forward_count(self) -> usize
+        ensures { result ≡ forward_groups self.number }
+    {
+        1 << (self.number - 1)
     }
-}
 
-/// Half the positions of a group of inverse layer `layer`.
-pub(crate) fn inverse_half(layer: u8) -> usize
-    requires { (1 ≤ layer) × (layer ≤ 7) }
-    ensures { result ≡ inverse_len 7 layer }
-{
-    forward_half(8 - layer)
-}
+    /// Half the positions of a group of this inverse layer.
+    pub(crate) fn inverse_half(self) -> usize
+        ensures { result ≡ inverse_len 7 self.number }
+    {
+        1 << self.number
+    }
 
-/// The number of groups of inverse layer `layer`.
-pub(crate) fn inverse_count(layer: u8) -> usize
-    requires { (1 ≤ layer) × (layer ≤ 7) }
-    ensures { result ≡ inverse_groups 7 layer }
-{
-    forward_count(8 - layer)
+    /// The number of groups of this inverse layer.
+    pub(crate) fn inverse_count(self) -> usize
+        ensures { result ≡ inverse_groups 7 self.number }
+    {
+        1 << (7 - self.number)
+    }
 }

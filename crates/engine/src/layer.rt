@@ -1,34 +1,27 @@
-ghost use Rattle.std.specs.Prelude.{◌≡◌, ℕ, pred, ◌-◌, ◌*◌, ◌<◌, ◌≤◌, true, length};
+ghost use Rattle.std.specs.Prelude.{◌≡◌, ℕ, pred, ◌-◌, ◌*◌, ◌<◌, length};
 ghost use Rattle.algebra.specs.declared.Direction.TheVariants.{Inverse};
 ghost use Rattle.algebra.specs.Congruence.{Same};
-ghost use Rattle.algebra.specs.Masks.{suits, mask_after, InverseLayer};
+ghost use Rattle.algebra.specs.Masks.{mask_after, InverseLayer};
 ghost use Rattle.engine.specs.Rows.{Elements, held};
 ghost use Rattle.engine.specs.Steps.{WentForward, WentBack, InverseOf128};
 
 use crate::butterfly::{forward_group, inverse_group};
-use crate::index::{forward_count, forward_half, inverse_count, inverse_half, reversed};
+use crate::index::reversed;
+use crate::masked::MaskedLayer;
 use crate::masks::Masks;
 use rings::Ring;
 
-/// One masked forward layer: `before` is the list that the layer before took, `list` is this layer's own.
-pub fn forward_layer<R: Ring>(
-    ring: &R,
-    words: &mut [R::Word],
-    layer: u8,
-    before: &[u8],
-    list: &[u8],
-)
-    requires number { (1 ≤ layer) × (layer ≤ 7) }
+/// One masked forward layer.
+pub fn forward_layer<R: Ring>(ring: &R, words: &mut [R::Word], masked: &MaskedLayer)
     requires size { length words.old ≡ 256 }
-    requires lists { (suits 7 (layer - 1) before.now ≡ true) × (suits 7 layer list.now ≡ true) }
     requires all { Elements (R.element ring.now) words.old }
     ensures all { Elements (R.element ring.now) words.new }
-    ensures went { WentForward (pred (R.modulus ring.now)) (R.root ring.now) layer before.now list.now (held (R.meaning ring.now) words.old) (held (R.meaning ring.now) words.new) }
+    ensures went { WentForward (pred (R.modulus ring.now)) (R.root ring.now) masked.now.layer.number masked.now.before.now masked.now.list.now (held (R.meaning ring.now) words.old) (held (R.meaning ring.now) words.new) }
 {
-    let came = Masks::new(before);
-    let goes = Masks::new(list);
-    let count = forward_count(layer);
-    let len = forward_half(layer);
+    let came = Masks::new(masked.before);
+    let goes = Masks::new(masked.list);
+    let count = masked.layer.forward_count();
+    let len = masked.layer.forward_half();
     for group in 0..count {
         let z = reversed((count + group) as u8);
         forward_group(ring, words, group, len, z, &came, &goes);
@@ -36,24 +29,16 @@ pub fn forward_layer<R: Ring>(
 }
 
 // The butterflies of an inverse layer, before the factor of the last one.
-fn inverse_butterflies<R: Ring>(
-    ring: &R,
-    words: &mut [R::Word],
-    layer: u8,
-    before: &[u8],
-    list: &[u8],
-)
-    requires number { (1 ≤ layer) × (layer ≤ 7) }
+fn inverse_butterflies<R: Ring>(ring: &R, words: &mut [R::Word], masked: &MaskedLayer)
     requires size { length words.old ≡ 256 }
-    requires lists { (suits 7 (layer - 1) before.now ≡ true) × (suits 7 layer list.now ≡ true) }
     requires all { Elements (R.element ring.now) words.old }
     ensures all { Elements (R.element ring.now) words.new }
-    ensures went { InverseLayer 7 (pred (R.modulus ring.now)) (R.root ring.now) 1 layer (mask_after 7 Inverse (layer - 1) before.now) (mask_after 7 Inverse layer list.now) (held (R.meaning ring.now) words.old) (held (R.meaning ring.now) words.new) }
+    ensures went { InverseLayer 7 (pred (R.modulus ring.now)) (R.root ring.now) 1 masked.now.layer.number (mask_after 7 Inverse (masked.now.layer.number - 1) masked.now.before.now) (mask_after 7 Inverse masked.now.layer.number masked.now.list.now) (held (R.meaning ring.now) words.old) (held (R.meaning ring.now) words.new) }
 {
-    let came = Masks::new(before);
-    let goes = Masks::new(list);
-    let count = inverse_count(layer);
-    let len = inverse_half(layer);
+    let came = Masks::new(masked.before);
+    let goes = Masks::new(masked.list);
+    let count = masked.layer.inverse_count();
+    let len = masked.layer.inverse_half();
     for group in 0..count {
         let z = reversed((2 * count - 1 - group) as u8);
         inverse_group(ring, words, group, len, z, &came, &goes);
@@ -73,23 +58,15 @@ pub(crate) fn scale<R: Ring>(ring: &R, words: &mut [R::Word])
     }
 }
 
-/// One masked inverse layer: `before` is the list that the layer before took, `list` is this layer's own.
-pub fn inverse_layer<R: Ring>(
-    ring: &R,
-    words: &mut [R::Word],
-    layer: u8,
-    before: &[u8],
-    list: &[u8],
-)
-    requires number { (1 ≤ layer) × (layer ≤ 7) }
+/// One masked inverse layer.
+pub fn inverse_layer<R: Ring>(ring: &R, words: &mut [R::Word], masked: &MaskedLayer)
     requires size { length words.old ≡ 256 }
-    requires lists { (suits 7 (layer - 1) before.now ≡ true) × (suits 7 layer list.now ≡ true) }
     requires all { Elements (R.element ring.now) words.old }
     ensures all { Elements (R.element ring.now) words.new }
-    ensures went { (i : ℕ) → InverseOf128 (pred (R.modulus ring.now)) i → WentBack (pred (R.modulus ring.now)) (R.root ring.now) i layer before.now list.now (held (R.meaning ring.now) words.old) (held (R.meaning ring.now) words.new) }
+    ensures went { (i : ℕ) → InverseOf128 (pred (R.modulus ring.now)) i → WentBack (pred (R.modulus ring.now)) (R.root ring.now) i masked.now.layer.number masked.now.before.now masked.now.list.now (held (R.meaning ring.now) words.old) (held (R.meaning ring.now) words.new) }
 {
-    inverse_butterflies(ring, words, layer, before, list);
-    if layer == 7 {
+    inverse_butterflies(ring, words, masked);
+    if masked.layer.number == 7 {
         scale(ring, words);
     }
 }

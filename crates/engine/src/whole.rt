@@ -1,9 +1,10 @@
-ghost use Rattle.std.specs.Prelude.{◌≡◌, ℕ, pred, length};
+ghost use Rattle.std.specs.Prelude.{◌≡◌, ℕ, pred, ◌-◌, length};
 ghost use Rattle.algebra.specs.Layers.{ntt, inv_ntt};
 ghost use Rattle.engine.specs.Rows.{Elements, held};
 ghost use Rattle.engine.specs.Steps.{InverseOf128, Agrees, no_masks_lem};
 
 use crate::layer::{forward_layer, inverse_layer};
+use crate::masked::{Layer, MaskedLayer};
 use rings::Ring;
 
 static ZERO: [u8; 1] = [0];
@@ -19,6 +20,19 @@ fn no_masks(layers: u8) -> &'static [u8]
     }
 }
 
+// A layer with no mask.
+fn unmasked(layer: Layer) -> MaskedLayer<'static>
+    ensures layer { result.layer ≡ layer }
+    ensures before { result.before.now ≡ no_masks_lem (layer.number - 1) }
+    ensures list { result.list.now ≡ no_masks_lem layer.number }
+{
+    MaskedLayer {
+        layer,
+        before: no_masks(layer.number - 1),
+        list: no_masks(layer.number),
+    }
+}
+
 /// The transform: all seven layers, with no mask.
 pub fn forward_layers<R: Ring>(ring: &R, words: &mut [R::Word])
     requires size { length words.old ≡ 256 }
@@ -26,8 +40,8 @@ pub fn forward_layers<R: Ring>(ring: &R, words: &mut [R::Word])
     ensures all { Elements (R.element ring.now) words.new }
     ensures transformed { Agrees (pred (R.modulus ring.now)) (held (R.meaning ring.now) words.new) (ntt 7 (pred (R.modulus ring.now)) (R.root ring.now) (held (R.meaning ring.now) words.old)) }
 {
-    for layer in 1..8u8 {
-        forward_layer(ring, words, layer, no_masks(layer - 1), no_masks(layer));
+    for number in 1..8u8 {
+        forward_layer(ring, words, &unmasked(Layer { number }));
     }
 }
 
@@ -38,7 +52,7 @@ pub fn inverse_layers<R: Ring>(ring: &R, words: &mut [R::Word])
     ensures all { Elements (R.element ring.now) words.new }
     ensures transformed { (i : ℕ) → InverseOf128 (pred (R.modulus ring.now)) i → Agrees (pred (R.modulus ring.now)) (held (R.meaning ring.now) words.new) (inv_ntt 7 (pred (R.modulus ring.now)) (R.root ring.now) i (held (R.meaning ring.now) words.old)) }
 {
-    for layer in 1..8u8 {
-        inverse_layer(ring, words, layer, no_masks(layer - 1), no_masks(layer));
+    for number in 1..8u8 {
+        inverse_layer(ring, words, &unmasked(Layer { number }));
     }
 }

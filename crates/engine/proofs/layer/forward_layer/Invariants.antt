@@ -7,4 +7,4 @@ abbrev pub invariant-loop-group : goal.invariant-loop-group
 invariant-loop-group g l =
     let r = g.R.Ring in
     let s = l.ring in
-    LayerWritten (r.element s) (r.meaning s) l.len l.group (forward_pairs (pred (r.modulus s)) (r.root s) l.layer l.len l.before l.list) l.initial.words l.words
+    LayerWritten (r.element s) (r.meaning s) l.len l.group (forward_pairs (pred (r.modulus s)) (r.root s) l.masked.layer.number l.len l.masked.before.now l.masked.list.now) l.initial.words l.words

@@ -6,10 +6,10 @@ use Rattle.engine.specs.Rows.{Elements, held}
 use Rattle.engine.specs.Steps.{no_masks_lem}
 use Rattle.engine.proofs.whole.forward_layers.Given as goal
 
-abbrev pub invariant-loop-layer : goal.invariant-loop-layer
-invariant-loop-layer g l =
+abbrev pub invariant-loop-number : goal.invariant-loop-number
+invariant-loop-number g l =
     let r = g.R.Ring in
     let s = l.ring in
     Elements (r.element s) l.words
-    × Holds (pred (r.modulus s)) (r.root s) (mask_after 7 Forward (l.layer - 1) (no_masks_lem (l.layer - 1)))
-    (layers 7 (pred (r.modulus s)) (r.root s) (l.layer - 1) (held (r.meaning s) l.initial.words)) (held (r.meaning s) l.words)
+    × Holds (pred (r.modulus s)) (r.root s) (mask_after 7 Forward (l.number - 1) (no_masks_lem (l.number - 1)))
+    (layers 7 (pred (r.modulus s)) (r.root s) (l.number - 1) (held (r.meaning s) l.initial.words)) (held (r.meaning s) l.words)

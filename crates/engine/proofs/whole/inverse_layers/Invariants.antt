@@ -6,11 +6,11 @@ use Rattle.engine.specs.Rows.{Elements, held}
 use Rattle.engine.specs.Steps.{InverseOf128, no_masks_lem}
 use Rattle.engine.proofs.whole.inverse_layers.Given as goal
 
-abbrev pub invariant-loop-layer : goal.invariant-loop-layer
-invariant-loop-layer g l =
+abbrev pub invariant-loop-number : goal.invariant-loop-number
+invariant-loop-number g l =
     let r = g.R.Ring in
     let s = l.ring in
     Elements (r.element s) l.words
     × ((i : ℕ) → InverseOf128 (pred (r.modulus s)) i →
-    Holds (pred (r.modulus s)) (r.root s) (mask_after 7 Inverse (l.layer - 1) (no_masks_lem (l.layer - 1)))
-    (inv_stage 7 (pred (r.modulus s)) (r.root s) i (l.layer - 1) (held (r.meaning s) l.initial.words)) (held (r.meaning s) l.words))
+    Holds (pred (r.modulus s)) (r.root s) (mask_after 7 Inverse (l.number - 1) (no_masks_lem (l.number - 1)))
+    (inv_stage 7 (pred (r.modulus s)) (r.root s) i (l.number - 1) (held (r.meaning s) l.initial.words)) (held (r.meaning s) l.words))
