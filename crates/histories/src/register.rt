@@ -21,3 +21,22 @@ pub struct Register {
     pub a: u32,
     pub b: u32,
 }
+
+impl Form {
+    ghost use Rattle.std.specs.Prelude.{◌≡◌};
+    ghost use Rattle.histories.specs.Forms.{in_work, whole};
+
+    /// Some of the layers of a transform are done, and not all.
+    pub fn is_in_work(self) -> bool
+        ensures { result ≡ in_work self }
+    {
+        matches!(self, Form::Rising(_) | Form::Falling(_))
+    }
+
+    /// Natural or transformed.
+    pub fn is_whole(self) -> bool
+        ensures { result ≡ whole self }
+    {
+        matches!(self, Form::Natural | Form::Transformed)
+    }
+}

@@ -1,10 +1,9 @@
 -- What the checks of a layer and the table's invariant give.
 use Rattle.std.proofs.Common.{◌≡◌, ℕ, suc, ◌-◌, ◌<◌, ◌≤◌, Bool, true, false, cond, not, ◌&&◌, ◌||◌, eqb, leb, List, [], ◌∷◌, length, take, sym, refl, ap, ◌∙◌, ⊎_elim, arith}
-use mathlib.Core.Option.{Option, none}
+use mathlib.Core.Option.{none}
 use Rattle.std.proofs.lemmas.Bool.Decides.{nat_tests}
 use Rattle.std.proofs.lemmas.List.{length-take-le, get_or_past}
-use Rattle.std.proofs.lemmas.Bool.{true≢false, and_parts, and_from, or_cases, or_from, cases_eq, cases_lt, eq-eqb, ne_eqb, eqb-true, leb-true, le-leb}
-use Rattle.rings.specs.declared.refusal.Refusal.{Refusal}
+use Rattle.std.proofs.lemmas.Bool.{true≢false, and_parts, and_from, or_cases, or_from, cases_eq, cases_lt, eq-eqb, ne_eqb, eqb-true, leb-true, le-leb, lt-ltb}
 use Rattle.rings.specs.declared.refusal.Refusal.TheVariants as refuse
 use Rattle.rings.specs.Refusals.{test, scan, first, flaw}
 use Rattle.algebra.specs.declared.Direction.{Direction}
@@ -13,8 +12,10 @@ use Rattle.algebra.specs.Masks.{is_list_length, suits}
 use Rattle.histories.specs.declared.register.Form.{Form}
 use Rattle.histories.specs.declared.register.Form.TheVariants.{Empty, Natural, Transformed, Rising, Falling}
 use Rattle.histories.specs.declared.register.Register.{Register}
-use Rattle.histories.specs.Forms.{occupied, in_work, turns, done_of, form_after}
-use Rattle.histories.specs.Calls.{empty_record, sized, known, eight, free, turn, rules}
+use Rattle.histories.specs.Forms.{in_work, turns, done_of, form_after}
+use Rattle.histories.specs.declared.index.Index.{Index}
+use Rattle.histories.specs.Calls.{empty_record, sized, used, eight, free, turn, rules}
+use Rattle.records.specs.declared.turn.Turn.{Turn}
 use Rattle.records.specs.Rows.{rows, proper, Alone, Single}
 use Rattle.records.specs.Tables.{carried}
 use Rattle.records.specs.Turns.{Turns}
@@ -96,42 +97,34 @@ beyond_idle : (rs : List Register) → length rs ≡ 8 → (k : ℕ) → 8 ≤ k
 beyond_idle rs size k l = ap (λ (x : Register). in_work x.form) (get_or_past rs k empty_record (omega arith))
 
 -- the list of checks, where all before BUSY pass, and where all before MASKS pass
-pub asks_busy : (S : ℕ → Register) (lent r : ℕ) (way : Direction) (masks : List ℕ) (x : Register) → x ≡ S r → none ≡ first (sized lent 2048 0 ∷ []) →
-    none ≡ first (known r ∷ []) → none ≡ first (test (occupied x.form) (refuse.Empty r) ∷ test (turns way x.form) (refuse.Form r) ∷ []) →
-    first (rules 0 0 S lent (turn way r masks))
-    ≡ first (scan (flaw (free S r) eight) refuse.Busy ∷ test (suits 7 (suc (done_of (S r).form)) masks) (refuse.Masks r) ∷ [])
-asks_busy S lent r way masks x e h i j =
-    let both = passed_both _ _ _ _ j in
-    let full : occupied (S r).form ≡ true = ap (λ (y : Register). occupied y.form) (sym e) ∙ both.0 in
-    let turning : turns way (S r).form ≡ true = ap (λ (y : Register). turns way y.form) (sym e) ∙ both.1 in
-    rw (passed _ _ h, passed _ _ i, full, turning)
+pub asks_busy : (S : ℕ → Register) (lent : ℕ) (register : Index) (way : Direction) (masks : List ℕ) → none ≡ first (sized lent 2048 0 ∷ []) →
+    none ≡ first (used S register.number ∷ test (turns way (S register.number).form) (refuse.Form register.number) ∷ []) →
+    first (rules 0 0 S lent (turn way register.number masks))
+    ≡ first (scan (flaw (free S register.number) eight) refuse.Busy ∷ test (suits 7 (suc (done_of (S register.number).form)) masks) (refuse.Masks register.number) ∷ [])
+asks_busy S lent register way masks h j =
+    let both = passed_both _ _ _ _ j in rw (passed _ _ h, lt-ltb register.number 8 register.known, both.0, both.1)
 
-pub asks_masks : (S : ℕ → Register) (lent r : ℕ) (way : Direction) (masks : List ℕ) (x : Register) → x ≡ S r → none ≡ first (sized lent 2048 0 ∷ []) →
-    none ≡ first (known r ∷ []) → none ≡ first (test (occupied x.form) (refuse.Empty r) ∷ test (turns way x.form) (refuse.Form r) ∷ []) →
-    none ≡ first (scan (flaw (free S r) eight) refuse.Busy ∷ []) → (layer : ℕ) → layer ≡ suc (done_of x.form) →
-    (o : Option Refusal) → o ≡ first (test (suits 7 layer masks) (refuse.Masks r) ∷ []) → o ≡ first (rules 0 0 S lent (turn way r masks))
-asks_masks S lent r way masks x e h i j b layer l o q =
-    let same : layer ≡ suc (done_of (S r).form) = l ∙ ap (λ (y : Register). suc (done_of y.form)) e in
-    q ∙ rw (same, asks_busy S lent r way masks x e h i j, unflawed _ _ b)
+pub asks_masks : (S : ℕ → Register) (lent : ℕ) (register : Index) (way : Direction) (masks : List ℕ) → none ≡ first (sized lent 2048 0 ∷ []) →
+    none ≡ first (used S register.number ∷ test (turns way (S register.number).form) (refuse.Form register.number) ∷ []) →
+    none ≡ first (scan (flaw (free S register.number) eight) refuse.Busy ∷ []) → (layer : ℕ) → layer ≡ suc (done_of (S register.number).form) →
+    first (rules 0 0 S lent (turn way register.number masks)) ≡ first (test (suits 7 layer masks) (refuse.Masks register.number) ∷ [])
+asks_masks S lent register way masks h j b layer l = rw (l, asks_busy S lent register way masks h j, unflawed _ _ b)
 
 -- what a layer that passes them may count on
-pub turns_found : (rs : List Register) (count : ℕ) (store : List ℕ) (way : Direction) (r : ℕ) (masks : List ℕ) (layer : ℕ) (next : Form) →
-    Kept (rows rs) count → length rs ≡ 8 → count ≤ length store → r < 8 → layer ≡ suc (done_of (rows rs r).form) → next ≡ form_after way layer →
-    flaw (free (rows rs) r) eight ≡ none → suits 7 layer masks ≡ true → Turns (record { registers = rows rs; masks = take count store }) way r masks layer next
-turns_found rs count store way r masks layer next k size fits known e n f out =
-    let low : done_of (rows rs r).form ≤ 6 = done_low (rows rs r).form (k.proper r) in
-    let least : 1 ≤ layer = omega arith in
-    let most : layer ≤ 7 = omega arith in
+pub turns_found : (rs : List Register) (count : ℕ) (store : List ℕ) (way : Direction) (masks : List ℕ) (x : Turn) →
+    Kept (rows rs) count → length rs ≡ 8 → count ≤ length store → x.layer.number ≡ suc (done_of (rows rs x.register.number).form) →
+    x.next ≡ form_after way x.layer.number → flaw (free (rows rs) x.register.number) eight ≡ none → suits 7 x.layer.number masks ≡ true →
+    Turns (record { registers = rows rs; masks = take count store }) way x.register.number masks x
+turns_found rs count store way masks x k size fits e n f out =
+    let layer = x.layer in
     record {
-      known = known;
+      register_is = refl;
       layer_is = e;
       next_is = n;
-      least = least;
-      most = most;
       outgoing = out;
-      incoming = rw e (carried_suits (rows rs r).form (take count store) (k.proper r) (λ w. rw (length-take-le count store fits) (k.listed r w)));
-      fine = rw n (after_proper way layer least most);
-      alone = others (rows rs) r k.single (beyond_idle rs size) f;
-      few = suits_short layer masks out;
-      suited = rw n (after_listed way layer masks least out);
+      incoming = rw e (carried_suits (rows rs x.register.number).form (take count store) (k.proper x.register.number) (λ w. rw (length-take-le count store fits) (k.listed x.register.number w)));
+      fine = rw n (after_proper way layer.number layer.first layer.last);
+      alone = others (rows rs) x.register.number k.single (beyond_idle rs size) f;
+      few = suits_short layer.number masks out;
+      suited = rw n (after_listed way layer.number masks layer.first out);
     }

@@ -1,8 +1,10 @@
--- The checks of a sum, a difference or a product, from their end on.
-use Rattle.std.specs.Prelude.{ℕ, List, ◌∷◌}
+-- The checks of a sum, a difference or a product, from their end on, and what an accepted one names.
+use Rattle.std.specs.Prelude.{◌≡◌, ℕ, List, ◌∷◌}
 use Rattle.rings.specs.declared.refusal.Refusal.{Refusal}
 use Rattle.rings.specs.declared.refusal.Refusal.TheVariants as refuse
 use Rattle.rings.specs.Refusals.{Check, test}
+use Rattle.histories.specs.declared.call.Join.{Join}
+use Rattle.histories.specs.declared.call.Operation as declared_operation
 use Rattle.histories.specs.declared.register.Register.{Register}
 use Rattle.histories.specs.Forms.{same_form}
 use Rattle.histories.specs.Calls.{used, idle, joins, factors, Operation}
@@ -19,3 +21,10 @@ of_forms S o d a b = idle S d ∷ of_operands S o a b
 -- all that is checked in the records
 abbrev pub of_records : (ℕ → Register) → Operation → (d a b : ℕ) → List (Check Refusal)
 of_records S o d a b = used S a ∷ used S b ∷ of_forms S o d a b
+
+-- the join of the registers with these numbers
+pub record Joins (operation : declared_operation.Operation) (d a b : ℕ) (join : Join) : Type 0 where
+  pub operation_is : join.operation ≡ operation
+  pub d_is : join.d.number ≡ d
+  pub a_is : join.a.number ≡ a
+  pub b_is : join.b.number ≡ b

@@ -1,88 +1,61 @@
-ghost use Rattle.std.specs.Prelude.{◌≡◌, suc, true, not, [], ◌∷◌, IfOk};
+ghost use Rattle.std.specs.Prelude.{◌≡◌, suc, true, [], ◌∷◌, IfOk};
 ghost use Rattle.rings.specs.declared.refusal.Refusal.TheVariants as refuse;
 ghost use Rattle.rings.specs.Refusals.{first, test as checked};
-ghost use Rattle.histories.specs.Forms.{occupied, in_work as works, is_transformed as transformed, whole as entire, same_form as alike, turns, done_of, form_after};
+ghost use Rattle.histories.specs.Forms.{occupied, turns, done_of, form_after as after};
+ghost use Rattle.histories.specs.Calls.{used as is_used, idle as is_idle};
 ghost use Rattle.histories.specs.Answers.{complaint};
-ghost use Rattle.records.specs.Rows.{proper as is_proper};
+ghost use Rattle.records.specs.Rows.{rows, proper as is_proper};
 
+use crate::table::Table;
 use algebra::Direction;
-use histories::Form;
+use engine::Layer;
+use histories::{Form, Index};
 use rings::Refusal;
 
-pub(crate) fn in_work(form: Form) -> bool
-    ensures { result ≡ works form }
-{
-    match form {
-        Form::Empty | Form::Natural | Form::Transformed => false,
-        Form::Rising(_) | Form::Falling(_) => true,
-    }
-}
-
-/// Natural or transformed.
-pub(crate) fn whole(form: Form) -> bool
-    ensures { result ≡ entire form }
-{
-    match form {
-        Form::Natural | Form::Transformed => true,
-        _ => false,
-    }
-}
-
-pub(crate) fn is_transformed(form: Form) -> bool
-    ensures { result ≡ transformed form }
-{
-    match form {
-        Form::Transformed => true,
-        _ => false,
-    }
-}
-
-/// Both natural or both transformed.
-pub(crate) fn same_form(x: Form, y: Form) -> bool
-    ensures { result ≡ alike x y }
-{
-    match (x, y) {
-        (Form::Natural, Form::Natural) => true,
-        (Form::Transformed, Form::Transformed) => true,
-        _ => false,
-    }
-}
-
 /// A register that has to hold something.
-pub(crate) fn used(form: Form, r: u8) -> Result<(), Refusal>
-    ensures { complaint result ≡ first (checked (occupied form) (refuse.Empty r) ∷ []) }
+pub(crate) fn used(table: &Table, register: Index) -> Result<(), Refusal>
+    ensures { complaint result ≡ first (is_used (rows table.now.records) register.number ∷ []) }
 {
-    match form {
-        Form::Empty => Err(Refusal::Empty(r)),
+    match table.record_of(register).form {
+        Form::Empty => Err(Refusal::Empty(register.number)),
         _ => Ok(()),
     }
 }
 
 /// A register that must not be in work.
-pub(crate) fn idle(form: Form, r: u8) -> Result<(), Refusal>
-    ensures { complaint result ≡ first (checked (not (works form)) (refuse.Form r) ∷ []) }
+pub(crate) fn idle(table: &Table, register: Index) -> Result<(), Refusal>
+    ensures { complaint result ≡ first (is_idle (rows table.now.records) register.number ∷ []) }
 {
-    if in_work(form) {
-        Err(Refusal::Form(r))
+    if table.record_of(register).form.is_in_work() {
+        Err(Refusal::Form(register.number))
     } else {
         Ok(())
     }
 }
 
-/// The layer that comes next in this direction, and the form that it leaves.
-pub(crate) fn next_layer(form: Form, way: Direction, r: u8) -> Result<(u8, Form), Refusal>
-    requires { is_proper form ≡ true }
-    ensures says { complaint result ≡ first (checked (occupied form) (refuse.Empty r) ∷ checked (turns way form) (refuse.Form r) ∷ []) }
-    ensures found { IfOk result (λ x. (x.0 ≡ suc (done_of form)) × (x.1 ≡ form_after way x.0)) }
+/// The layer of a register that comes next in this direction.
+pub(crate) fn next_layer(table: &Table, way: Direction, register: Index) -> Result<Layer, Refusal>
+    ensures says { complaint result ≡ first (is_used (rows table.now.records) register.number ∷ checked (turns way (rows table.now.records register.number).form) (refuse.Form register.number) ∷ []) }
+    ensures found { IfOk result (λ layer. layer.number ≡ suc (done_of (rows table.now.records register.number).form)) }
 {
-    match (form, way) {
-        (Form::Empty, _) => Err(Refusal::Empty(r)),
-        (Form::Natural, Direction::Forward) => Ok((1, Form::Rising(1))),
-        (Form::Rising(6), Direction::Forward) => Ok((7, Form::Transformed)),
-        (Form::Rising(s), Direction::Forward) => Ok((s + 1, Form::Rising(s + 1))),
-        (Form::Transformed, Direction::Inverse) => Ok((1, Form::Falling(1))),
-        (Form::Falling(6), Direction::Inverse) => Ok((7, Form::Natural)),
-        (Form::Falling(s), Direction::Inverse) => Ok((s + 1, Form::Falling(s + 1))),
-        _ => Err(Refusal::Form(r)),
+    let done = match (table.record_of(register).form, way) {
+        (Form::Empty, _) => return Err(Refusal::Empty(register.number)),
+        (Form::Natural, Direction::Forward) | (Form::Transformed, Direction::Inverse) => 0,
+        (Form::Rising(done), Direction::Forward) | (Form::Falling(done), Direction::Inverse) =>
+            done,
+        _ => return Err(Refusal::Form(register.number)),
+    };
+    Ok(Layer { number: done + 1 })
+}
+
+/// The form that a layer leaves.
+pub(crate) fn form_after(way: Direction, layer: Layer) -> Form
+    ensures { result ≡ after way layer.number }
+{
+    match (way, layer.number) {
+        (Direction::Forward, 7) => Form::Transformed,
+        (Direction::Forward, done) => Form::Rising(done),
+        (Direction::Inverse, 7) => Form::Natural,
+        (Direction::Inverse, done) => Form::Falling(done),
     }
 }

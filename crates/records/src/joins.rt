@@ -1,81 +1,78 @@
-ghost use Rattle.std.specs.Prelude.{◌≡◌, ◌<◌};
+ghost use Rattle.std.specs.Prelude.{◌≡◌, IfOk};
 ghost use Rattle.rings.specs.Refusals.{first};
-ghost use Rattle.histories.specs.Calls.{join, factors as of_factors, rules, times};
+ghost use Rattle.histories.specs.Calls.{join as joining, factors as of_factors, rules, times};
+ghost use Rattle.histories.specs.Kinds.{operation_of};
 ghost use Rattle.histories.specs.Answers.{complaint};
 ghost use Rattle.records.specs.Rows.{rows};
-ghost use Rattle.records.specs.Joins.{of_operands, of_forms, of_records};
-ghost use Rattle.histories.specs.Kinds.{operation_of};
+ghost use Rattle.records.specs.Joins.{Joins, of_operands, of_forms, of_records};
 
+use crate::forms::{idle, used};
+use crate::lists::sized;
 use crate::table::Table;
-use crate::{forms, lists};
-use histories::Operation;
+use histories::{Form, Index, Join, Operation};
 use rings::Refusal;
 
 // The factors of a product: none is a product itself, and none has a silent witness.
-fn factors(table: &Table, a: u8, b: u8) -> Result<(), Refusal>
-    requires { (a < 8) × (b < 8) }
-    ensures { complaint result ≡ first (of_factors (rows table.now.records) times a b) }
+fn factors(table: &Table, a: Index, b: Index) -> Result<(), Refusal>
+    ensures { complaint result ≡ first (of_factors (rows table.now.records) times a.number b.number) }
 {
     let x = table.record_of(a);
     let y = table.record_of(b);
     if x.level > 1 {
-        return Err(Refusal::Level(a));
+        return Err(Refusal::Level(a.number));
     }
     if y.level > 1 {
-        return Err(Refusal::Level(b));
+        return Err(Refusal::Level(b.number));
     }
     if x.a == 0 {
-        return Err(Refusal::Silent(a));
+        return Err(Refusal::Silent(a.number));
     }
     if y.a == 0 {
-        return Err(Refusal::Silent(b));
+        return Err(Refusal::Silent(b.number));
     }
     Ok(())
 }
 
 // The forms of the operands: a product takes transforms, a sum or a difference two of the same form.
-fn operands(table: &Table, operation: Operation, a: u8, b: u8) -> Result<(), Refusal>
-    requires { (a < 8) × (b < 8) }
-    ensures { complaint result ≡ first (of_operands (rows table.now.records) (operation_of operation) a b) }
+fn operands(table: &Table, join: Join) -> Result<(), Refusal>
+    ensures { complaint result ≡ first (of_operands (rows table.now.records) (operation_of join.operation) join.a.number join.b.number) }
 {
-    let x = table.record_of(a).form;
-    let y = table.record_of(b).form;
-    let suits = match operation {
-        Operation::Plus | Operation::Minus => forms::whole(x),
-        Operation::Times => forms::is_transformed(x),
+    let x = table.record_of(join.a).form;
+    let y = table.record_of(join.b).form;
+    let suits = match join.operation {
+        Operation::Plus | Operation::Minus => x.is_whole(),
+        Operation::Times => x == Form::Transformed,
     };
     if !suits {
-        return Err(Refusal::Form(a));
+        return Err(Refusal::Form(join.a.number));
     }
-    if !forms::same_form(x, y) {
-        return Err(Refusal::Form(b));
+    if x != y {
+        return Err(Refusal::Form(join.b.number));
     }
-    match operation {
+    match join.operation {
         Operation::Plus | Operation::Minus => Ok(()),
-        Operation::Times => factors(table, a, b),
+        Operation::Times => factors(table, join.a, join.b),
     }
 }
 
 // The forms of all three registers: that of the result must not be in work.
-fn placed(table: &Table, operation: Operation, d: u8, a: u8, b: u8) -> Result<(), Refusal>
-    requires { (d < 8) × ((a < 8) × (b < 8)) }
-    ensures { complaint result ≡ first (of_forms (rows table.now.records) (operation_of operation) d a b) }
+fn placed(table: &Table, join: Join) -> Result<(), Refusal>
+    ensures { complaint result ≡ first (of_forms (rows table.now.records) (operation_of join.operation) join.d.number join.a.number join.b.number) }
 {
-    forms::idle(table.record_of(d).form, d)?;
-    operands(table, operation, a, b)
+    idle(table, join.d)?;
+    operands(table, join)
 }
 
 // What is checked in the records of the three registers.
-fn suitable(table: &Table, operation: Operation, d: u8, a: u8, b: u8) -> Result<(), Refusal>
-    requires { (d < 8) × ((a < 8) × (b < 8)) }
-    ensures { complaint result ≡ first (of_records (rows table.now.records) (operation_of operation) d a b) }
+fn suitable(table: &Table, join: Join) -> Result<(), Refusal>
+    ensures { complaint result ≡ first (of_records (rows table.now.records) (operation_of join.operation) join.d.number join.a.number join.b.number) }
 {
-    forms::used(table.record_of(a).form, a)?;
-    forms::used(table.record_of(b).form, b)?;
-    placed(table, operation, d, a, b)
+    used(table, join.a)?;
+    used(table, join.b)?;
+    placed(table, join)
 }
 
-/// What a sum, a difference or a product is refused for.
+/// What a sum, a difference or a product is refused for; else its registers.
 pub fn check_join(
     table: &Table,
     operation: Operation,
@@ -83,12 +80,17 @@ pub fn check_join(
     d: u8,
     a: u8,
     b: u8,
-) -> Result<(), Refusal>
-    ensures { complaint result ≡ first (rules 0 0 (rows table.now.records) lent (join (operation_of operation) d a b)) }
+) -> Result<Join, Refusal>
+    ensures says { complaint result ≡ first (rules 0 0 (rows table.now.records) lent (joining (operation_of operation) d a b)) }
+    ensures found { IfOk result (Joins operation d a b) }
 {
-    lists::sized(lent, 2048, 0)?;
-    lists::known(d)?;
-    lists::known(a)?;
-    lists::known(b)?;
-    suitable(table, operation, d, a, b)
+    sized(lent, 2048, 0)?;
+    let join = Join {
+        operation,
+        d: Index::try_from(d)?,
+        a: Index::try_from(a)?,
+        b: Index::try_from(b)?,
+    };
+    suitable(table, join)?;
+    Ok(join)
 }

@@ -5,8 +5,10 @@ pub(crate) mod forms;
 pub mod joins;
 pub(crate) mod lists;
 pub mod table;
+pub mod turn;
 
 pub use checks::{check_clear, check_load, check_refresh, check_release, check_turn};
 pub use joins::check_join;
 pub use table::Table;
 pub use table::changes::loaded_form;
+pub use turn::Turn;

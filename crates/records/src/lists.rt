@@ -2,10 +2,12 @@ ghost use Rattle.std.specs.Prelude.{◌≡◌, ◌&&◌, [], ◌∷◌, length, 
 ghost use Rattle.algebra.specs.Masks.{suits};
 ghost use Rattle.rings.specs.declared.refusal.Refusal.TheVariants as refuse;
 ghost use Rattle.rings.specs.Refusals.{first, test as checked, scan, flaw, below};
-ghost use Rattle.histories.specs.Calls.{sized as is_sized, known as is_known, digits as are_digits};
+ghost use Rattle.histories.specs.Calls.{sized as is_sized, digits as are_digits};
 ghost use Rattle.histories.specs.Answers.{complaint};
 
+use engine::Layer;
 use engine::masks::suit;
+use histories::Index;
 use rings::Refusal;
 
 /// A slice, at its position among the call's slices, that has to have so many elements.
@@ -17,16 +19,6 @@ pub(crate) fn sized(n: usize, wanted: usize, position: u8) -> Result<(), Refusal
     } else {
         Err(Refusal::Length(position))
     }
-}
-
-/// One of the eight registers.
-pub(crate) fn known(r: u8) -> Result<(), Refusal>
-    ensures { complaint result ≡ first (is_known r ∷ []) }
-{
-    if r >= 8 {
-        return Err(Refusal::Register(r));
-    }
-    Ok(())
 }
 
 /// Coefficients that have to be below 3329.
@@ -65,13 +57,13 @@ pub(crate) fn digits(t: u8, bytes: &[u8]) -> Result<(), Refusal>
     Ok(())
 }
 
-/// A mask list that has to suit the layer of register r.
-pub(crate) fn suited(layer: u8, masks: &[u8], r: u8) -> Result<(), Refusal>
-    ensures { complaint result ≡ first (checked (suits 7 layer masks.now) (refuse.Masks r) ∷ []) }
+/// A mask list that has to suit the layer of a register.
+pub(crate) fn suited(layer: Layer, masks: &[u8], register: Index) -> Result<(), Refusal>
+    ensures { complaint result ≡ first (checked (suits 7 layer.number masks.now) (refuse.Masks register.number) ∷ []) }
 {
-    if suit(layer, masks) {
+    if suit(layer.number, masks) {
         Ok(())
     } else {
-        Err(Refusal::Masks(r))
+        Err(Refusal::Masks(register.number))
     }
 }

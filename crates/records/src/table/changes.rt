@@ -8,7 +8,8 @@ ghost use Rattle.records.specs.Tables.{state, with_register, advanced, carried};
 ghost use Rattle.histories.specs.Kinds.{kind_of, operation_of};
 
 use super::Table;
-use histories::{Form, Kind, Operation, Register};
+use engine::Layer;
+use histories::{Form, Index, Join, Kind, Operation, Register};
 
 const EMPTY: Register = Register {
     form: Form::Empty,
@@ -68,12 +69,11 @@ impl Table {
         }
     }
 
-    /// Notes what was loaded into register r, with the number c of its witness.
-    pub fn load(&mut self, r: u8, kind: Kind, c: u32)
-        requires { r < 8 }
-        ensures { state self.new ≡ with_register r (loaded (kind_of kind) c) (state self.old) }
+    /// Notes what was loaded into a register, with the number c of its witness.
+    pub fn load(&mut self, register: Index, kind: Kind, c: u32)
+        ensures { state self.new ≡ with_register register.number (loaded (kind_of kind) c) (state self.old) }
     {
-        let record = &mut self.records[r as usize];
+        let record = &mut self.records[register.number as usize];
         record.form = loaded_form(kind);
         record.level = 1;
         record.a = c;
@@ -81,54 +81,54 @@ impl Table {
     }
 
     /// Notes that register d got the sum, the difference or the product of a and b.
-    pub fn join(&mut self, operation: Operation, p: u32, d: u8, a: u8, b: u8)
+    pub fn join(&mut self, p: u32, join: Join)
         requires modulus { 0 < p }
-        requires known { (d < 8) × ((a < 8) × (b < 8)) }
-        requires entire { whole (rows self.old.records a).form ≡ true }
-        ensures { state self.new ≡ with_register d (joined p (operation_of operation) (rows self.old.records a) (rows self.old.records b)) (state self.old) }
+        requires entire { whole (rows self.old.records join.a.number).form ≡ true }
+        ensures { state self.new ≡ with_register join.d.number (joined p (operation_of join.operation) (rows self.old.records join.a.number) (rows self.old.records join.b.number)) (state self.old) }
     {
-        let x = self.records[a as usize];
-        let y = self.records[b as usize];
-        self.records[d as usize] = result(p, operation, x, y);
+        let x = self.record_of(join.a);
+        let y = self.record_of(join.b);
+        self.records[join.d.number as usize] = result(p, join.operation, x, y);
     }
 
-    /// Notes that register r is empty.
-    pub fn clear(&mut self, r: u8)
-        requires { r < 8 }
-        ensures { state self.new ≡ with_register r empty_record (state self.old) }
+    /// Notes that a register is empty.
+    pub fn clear(&mut self, register: Index)
+        ensures { state self.new ≡ with_register register.number empty_record (state self.old) }
     {
-        self.records[r as usize] = EMPTY;
+        self.records[register.number as usize] = EMPTY;
     }
 
-    /// Notes that register r has had a layer, which left this form and took this list of masks.
-    pub fn advance(&mut self, r: u8, next: Form, masks: &[u8])
-        requires known { r < 8 }
+    /// Notes that a register has had a layer, which left this form and took this list of masks.
+    pub fn advance(&mut self, register: Index, next: Form, masks: &[u8])
         requires fine { is_proper next ≡ true }
-        requires alone { Alone (rows self.old.records) r }
+        requires alone { Alone (rows self.old.records) register.number }
         requires few { length masks.now ≤ 128 }
         requires suited { in_work next ≡ true → is_list_length (length masks.now) ≡ true }
-        ensures { state self.new ≡ advanced r next masks.now (state self.old) }
+        ensures { state self.new ≡ advanced register.number next masks.now (state self.old) }
     {
-        let record = &mut self.records[r as usize];
+        let record = &mut self.records[register.number as usize];
         record.form = next;
         let n = masks.len();
         self.store[0..n].copy_from_slice(masks);
         self.count = n as u8;
     }
 
-    /// The record of register r.
-    pub fn record_of(&self, r: u8) -> Register
-        requires { r < 8 }
-        ensures { result ≡ rows self.now.records r }
+    /// The record of a register.
+    pub fn record_of(&self, register: Index) -> Register
+        ensures { result ≡ rows self.now.records register.number }
     {
-        self.records[r as usize]
+        self.records[register.number as usize]
     }
 
     /// The list of masks that the words carry before this layer: none before layer 1, else the list that the layer before took.
-    pub fn incoming(&self, layer: u8) -> &[u8]
-        ensures { result.now ≡ carried layer (state self.now).masks }
+    pub fn incoming(&self, layer: Layer) -> &[u8]
+        ensures { result.now ≡ carried layer.number (state self.now).masks }
     {
-        let n = if layer == 1 { 0 } else { self.count as usize };
+        let n = if layer.number == 1 {
+            0
+        } else {
+            self.count as usize
+        };
         &self.store[0..n]
     }
 }

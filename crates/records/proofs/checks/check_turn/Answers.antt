@@ -1,8 +1,5 @@
-use Rattle.std.proofs.Common.{suc, sym, ap, ◌∙◌, arith}
+use Rattle.std.proofs.Common.{sym, ◌∙◌, arith}
 use Rattle.std.proofs.lemmas.Result.{err_from_is_err_and}
-use Rattle.std.proofs.lemmas.Bool.{ltb-true}
-use Rattle.histories.specs.declared.register.Register.{Register}
-use Rattle.histories.specs.Forms.{done_of}
 use Rattle.records.specs.Rows.{rows}
 use Rattle.records.proofs.Chains.{passed, unflawed, complains}
 use Rattle.records.proofs.Turning.{asks_busy, asks_masks, turns_found}
@@ -12,31 +9,31 @@ pub returns-in_err-unhindered : goal.returns-in_err-unhindered
 returns-in_err-unhindered c =
     let p = err_from_is_err_and c.from_residual-in_err-unhindered.result c.from_residual-in_err-unhindered.ensures.1 in
     let list =
-    asks_busy (rows c.args.table.now.records) c.args.lent c.args.r c.args.way c.args.masks.now _ c.record_of.ensures
-    c.in_ok-sized.ensures c.in_ok-known.ensures c.in_ok-layer.ensures.says in
-    rw (p.1, p.2) (record { says = complains _ _ _ _ c.in_err-unhindered.ensures ∙ sym list; found = tt })
+    asks_busy (rows c.args.table.now.records) c.args.lent c.in_ok-register.register c.args.way c.args.masks.now
+    c.in_ok-sized.ensures c.in_ok-layer.ensures.says in
+    rw (p.1, p.2, sym c.in_ok-register.ensures) (record { says = complains _ _ _ _ c.in_err-unhindered.ensures ∙ sym list; found = tt })
 
 pub returns-in_err-suited : goal.returns-in_err-suited
 returns-in_err-suited c =
     let p = err_from_is_err_and c.from_residual-in_err-suited.result c.from_residual-in_err-suited.ensures.1 in
     let list =
-    asks_masks (rows c.args.table.now.records) c.args.lent c.args.r c.args.way c.args.masks.now _ c.record_of.ensures
-    c.in_ok-sized.ensures c.in_ok-known.ensures c.in_ok-layer.ensures.says c.in_ok-unhindered.ensures
-    _ c.in_ok-layer.ensures.found.0 _ c.in_err-suited.ensures in
-    rw (p.1, p.2) (record { says = list; found = tt })
+    asks_masks (rows c.args.table.now.records) c.args.lent c.in_ok-register.register c.args.way c.args.masks.now
+    c.in_ok-sized.ensures c.in_ok-layer.ensures.says c.in_ok-unhindered.ensures _ c.in_ok-layer.ensures.found in
+    rw (p.1, p.2, sym c.in_ok-register.ensures) (record { says = c.in_err-suited.ensures ∙ sym list; found = tt })
 
 pub returns : goal.returns
 returns c =
     let s = c.args.table.now in
     let list =
-    asks_masks (rows s.records) c.args.lent c.args.r c.args.way c.args.masks.now _ c.record_of.ensures
-    c.in_ok-sized.ensures c.in_ok-known.ensures c.in_ok-layer.ensures.says c.in_ok-unhindered.ensures
-    _ c.in_ok-layer.ensures.found.0 _ c.in_ok-suited.ensures in
-    record {
-      says = list;
+    asks_masks (rows s.records) c.args.lent c.in_ok-register.register c.args.way c.args.masks.now
+    c.in_ok-sized.ensures c.in_ok-layer.ensures.says c.in_ok-unhindered.ensures _ c.in_ok-layer.ensures.found in
+    rw (sym c.in_ok-register.ensures)
+    (record {
+      says = c.in_ok-suited.ensures ∙ sym list;
       found =
-          turns_found s.records s.count s.store c.args.way c.args.r c.args.masks.now c.in_ok-layer.layer c.in_ok-layer.next
-          (record { proper = s.proper; single = s.single; listed = s.listed }) s.eight (omega arith) (ltb-true c.args.r 8 (passed _ _ c.in_ok-known.ensures))
-          (c.in_ok-layer.ensures.found.0 ∙ ap (λ (x : Register). suc (done_of x.form)) c.record_of.ensures) c.in_ok-layer.ensures.found.1
+          turns_found s.records s.count s.store c.args.way c.args.masks.now
+          (record { register = c.in_ok-register.register; layer = c.in_ok-layer.layer; next = _ })
+          (record { proper = s.proper; single = s.single; listed = s.listed }) s.eight (omega arith)
+          c.in_ok-layer.ensures.found c.form_after-next.ensures
           (unflawed _ _ c.in_ok-unhindered.ensures) (passed _ _ c.in_ok-suited.ensures);
-    }
+    })

@@ -10,7 +10,7 @@ pub invariant_of-self : goal.invariant_of-self
 invariant_of-self c =
     let s = c.args.self.now in
     let k =
-    layer_kept s.records c.args.r (with_form c.args.next (rows s.records c.args.r)) (length c.args.masks.now) (omega arith)
+    layer_kept s.records c.args.register.number (with_form c.args.next (rows s.records c.args.register.number)) (length c.args.masks.now) (omega arith)
     s.proper c.requires.alone c.requires.fine c.requires.suited in
     let room : length (put_mid 0 (length c.args.masks.now - 0) s.store c.copy_from_slice.new.self) ≡ 128 = simp (length-append, length-drop) (omega arith) in
     record {
@@ -18,11 +18,11 @@ invariant_of-self c =
       single = k.single;
       listed = k.listed;
       short = c.requires.few;
-      eight = length-set s.records c.args.r _ ∙ s.eight;
+      eight = length-set s.records c.args.register.number _ ∙ s.eight;
       room = room;
     }
 
 pub returns : goal.returns
 returns c =
-    layered c.args.self.now.records c.args.r c.args.next _ c.args.masks.now (omega arith)
+    layered c.args.self.now.records c.args.register.number c.args.next _ c.args.masks.now (omega arith)
     (take_at c.copy_from_slice.new.self _ _ (omega arith) ∙ c.copy_from_slice.ensures.after)

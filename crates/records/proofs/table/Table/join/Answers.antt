@@ -11,17 +11,17 @@ pub invariant_of-self : goal.invariant_of-self
 invariant_of-self c =
     let s = c.args.self.now in
     let k =
-    idle_kept s.records c.args.d c.result.result s.count (omega arith)
+    idle_kept s.records c.args.join.d.number c.result.result s.count (omega arith)
     (record { proper = s.proper; single = s.single; listed = s.listed })
-    (ap (λ (x : Register). in_work x.form) c.result.ensures ∙ whole_idle (rows s.records c.args.a).form c.requires.entire) in
+    (ap (λ (x : Register). in_work x.form) c.result.ensures ∙ ap (λ (x : Register). in_work x.form) c.record_of-x.ensures ∙ whole_idle (rows s.records c.args.join.a.number).form c.requires.entire) in
     record {
       proper = k.proper;
       single = k.single;
       listed = k.listed;
       short = s.short;
-      eight = length-set s.records c.args.d _ ∙ s.eight;
+      eight = length-set s.records c.args.join.d.number _ ∙ s.eight;
       room = s.room;
     }
 
 pub returns : goal.returns
-returns c = changed c.args.self.now.records c.args.d _ _ _ (omega arith) c.result.ensures
+returns c = changed c.args.self.now.records c.args.join.d.number _ _ _ (omega arith) (c.result.ensures ∙ rw (c.record_of-x.ensures, c.record_of-y.ensures))

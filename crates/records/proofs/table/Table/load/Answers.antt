@@ -9,13 +9,13 @@ pub invariant_of-self : goal.invariant_of-self
 invariant_of-self c =
     let s = c.args.self.now in
     let k =
-    idle_kept s.records c.args.r _ s.count (omega arith)
+    idle_kept s.records c.args.register.number _ s.count (omega arith)
     (record { proper = s.proper; single = s.single; listed = s.listed }) (ap in_work c.loaded_form-record.ensures ∙ loaded_idle (kind_of c.args.kind)) in
     record {
       proper = k.proper;
       single = k.single;
       listed = k.listed;
       short = s.short;
-      eight = length-set s.records c.args.r _ ∙ s.eight;
+      eight = length-set s.records c.args.register.number _ ∙ s.eight;
       room = s.room;
     }
