@@ -1,26 +1,25 @@
 #![tactic(auto)]
 
 ghost use Rattle.std.specs.Prelude.{◌≡◌, length};
-ghost use Rattle.guarded.specs.Model.{guarded as model};
-ghost use Rattle.histories.specs.Calls.{checks};
-ghost use Rattle.histories.specs.Forms.{in_form};
-ghost use Rattle.histories.specs.Operations.{witness as expected};
+ghost use Rattle.guarded.specs.Model.{model};
+ghost use Rattle.histories.specs.Calls.{due};
 
 use guarded::GuardedRing;
-use histories::Form;
+use histories::{Form, Register};
 
 mod groups;
 mod modulus;
 mod natural;
 mod transformed;
 
-/// Writes what a register of this form and witness has to hold modulo p: the coefficients of aJ + bJ², or their transform.
-pub fn residues_due<G: GuardedRing>(ring: &G, form: Form, a: u32, b: u32, numbers: &mut [u32])
+/// Writes what a register of this record has to hold modulo p: the coefficients of aJ + bJ², or their transform.
+// The length stays a `requires`: a release lends a slice, and of its conversion to an array no contract says what the slice holds afterwards.
+pub fn residues_due<G: GuardedRing>(ring: &G, register: Register, numbers: &mut [u32])
     requires { length numbers.old ≡ 256 }
-    ensures { numbers.new ≡ in_form (checks (model G.check G.redundancy G.root G.element G.meaning G.number ring.now)) form (expected (checks (model G.check G.redundancy G.root G.element G.meaning G.number ring.now)) a b) }
+    ensures { numbers.new ≡ due (model G.GuardedRing ring.now) register }
 {
-    match form {
-        Form::Transformed => transformed::transform_due(ring, a, b, numbers),
-        _ => natural::coefficients_due(ring, a, b, numbers),
+    match register.form {
+        Form::Transformed => transformed::transform_due(ring, register.a, register.b, numbers),
+        _ => natural::coefficients_due(ring, register.a, register.b, numbers),
     }
 }

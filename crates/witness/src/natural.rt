@@ -1,5 +1,5 @@
 ghost use Rattle.std.specs.Prelude.{◌≡◌, length};
-ghost use Rattle.guarded.specs.Model.{guarded as model};
+ghost use Rattle.guarded.specs.Model.{model};
 ghost use Rattle.histories.specs.Calls.{checks};
 ghost use Rattle.histories.specs.Operations.{witness as expected};
 
@@ -9,7 +9,7 @@ use guarded::GuardedRing;
 // The coefficients of aJ + bJ²: the first is a - 254b, and each grows by 2b to the next.
 pub(crate) fn coefficients_due<G: GuardedRing>(ring: &G, a: u32, b: u32, numbers: &mut [u32])
     requires { length numbers.old ≡ 256 }
-    ensures { numbers.new ≡ expected (checks (model G.check G.redundancy G.root G.element G.meaning G.number ring.now)) a b }
+    ensures { numbers.new ≡ expected (checks (model G.GuardedRing ring.now)) a b }
 {
     let p = ring.check_modulus();
     let modulus = Modulus::of(p);

@@ -1,5 +1,5 @@
 ghost use Rattle.std.specs.Prelude.{◌≡◌, ◌+◌, ◌*◌, ◌%◌, length};
-ghost use Rattle.guarded.specs.Model.{guarded as model};
+ghost use Rattle.guarded.specs.Model.{model};
 ghost use Rattle.histories.specs.Calls.{checks};
 ghost use Rattle.histories.specs.Operations.{transform_of, witness as expected};
 
@@ -22,7 +22,7 @@ fn slot_due(modulus: &Modulus, a: u32, b: u32, s: u32, c: u32) -> (u32, u32)
 // The transform of aJ + bJ², slot by slot from that of J.
 pub(crate) fn transform_due<G: GuardedRing>(ring: &G, a: u32, b: u32, numbers: &mut [u32])
     requires { length numbers.old ≡ 256 }
-    ensures { numbers.new ≡ transform_of (checks (model G.check G.redundancy G.root G.element G.meaning G.number ring.now)) (expected (checks (model G.check G.redundancy G.root G.element G.meaning G.number ring.now)) a b) }
+    ensures { numbers.new ≡ transform_of (checks (model G.GuardedRing ring.now)) (expected (checks (model G.GuardedRing ring.now)) a b) }
 {
     let modulus = Modulus::of(ring.check_modulus());
     let ones = ones_transformed(ring, &modulus);
