@@ -30,15 +30,21 @@ def table(name, word, modulus, root):
     function = name.lower()
     return (
         f"const {name}: [{word}; 256] = [\n{rows}];\n\n"
-        f"/// {root} to the power of e, modulo {modulus}.\n"
-        f"pub fn {function}(e: u8) -> {word}\n"
-        f"    ensures {{ result ≡ ({root} ^ e) % {modulus} }}\n"
-        f"{{\n    {name}[e as usize]\n}}\n"
+        f"/// The powers of {root} modulo {modulus}.\n"
+        f"pub fn {function}() -> &'static [{word}; 256]\n"
+        f"    ensures {{ Powers {root} {modulus} result.now }}\n"
+        f"{{\n    &{name}\n}}\n"
     )
 
 
 def main():
-    head = "#![tactic(auto)]\n\n// Written by tools/powers.py.\nghost use Rattle.std.specs.Prelude.{◌≡◌, ◌%◌, ◌^◌};\n\n"
+    head = (
+        "#![tactic(auto)]\n\n// Written by tools/powers.py.\n"
+        "// A ring takes its table once, when it is approved, and keeps it.\n"
+        "// The five are one form already: a table and what it holds. Their words differ, u16 and u32, so one function for all would need a\n"
+        "// trait of words with two impls and a type for each root beside the same five tables, and would be no plainer.\n"
+        "ghost use Rattle.roots.specs.Powers.{Powers};\n\n"
+    )
     tables = [table(name, "u16", modulus, root) for name, modulus, root in PLAIN]
     tables += [table(name, "u32", modulus, root) for name, modulus, root in JOINT]
     with open("crates/roots/src/lib.rt", "w") as out:

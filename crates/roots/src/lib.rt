@@ -1,7 +1,10 @@
 #![tactic(auto)]
 
 // Written by tools/powers.py.
-ghost use Rattle.std.specs.Prelude.{◌≡◌, ◌%◌, ◌^◌};
+// A ring takes its table once, when it is approved, and keeps it.
+// The five are one form already: a table and what it holds. Their words differ, u16 and u32, so one function for all would need a
+// trait of words with two impls and a type for each root beside the same five tables, and would be no plainer.
+ghost use Rattle.roots.specs.Powers.{Powers};
 
 const PLAIN_3329: [u16; 256] = [
     1, 17, 289, 1584, 296, 1703, 2319, 2804, 1062, 1409, 650, 1063, 1426, 939, 2647, 1722, 2642,
@@ -22,11 +25,11 @@ const PLAIN_3329: [u16; 256] = [
     927, 2443, 1583, 279, 1414, 735, 2508, 2688, 2419, 1175,
 ];
 
-/// 17 to the power of e, modulo 3329.
-pub fn plain_3329(e: u8) -> u16
-    ensures { result ≡ (17 ^ e) % 3329 }
+/// The powers of 17 modulo 3329.
+pub fn plain_3329() -> &'static [u16; 256]
+    ensures { Powers 17 3329 result.now }
 {
-    PLAIN_3329[e as usize]
+    &PLAIN_3329
 }
 
 const PLAIN_7681: [u16; 256] = [
@@ -48,11 +51,11 @@ const PLAIN_7681: [u16; 256] = [
     7098, 1800, 6300, 6688, 365, 5118, 2551, 5088, 2446, 880, 3080, 3099, 7006, 1478, 5173, 6584,
 ];
 
-/// 3844 to the power of e, modulo 7681.
-pub fn plain_7681(e: u8) -> u16
-    ensures { result ≡ (3844 ^ e) % 7681 }
+/// The powers of 3844 modulo 7681.
+pub fn plain_7681() -> &'static [u16; 256]
+    ensures { Powers 3844 7681 result.now }
 {
-    PLAIN_7681[e as usize]
+    &PLAIN_7681
 }
 
 const PLAIN_12289: [u16; 256] = [
@@ -75,11 +78,11 @@ const PLAIN_12289: [u16; 256] = [
     9923, 5067, 6429, 2089, 2294, 2525, 10938, 5911, 726, 5374,
 ];
 
-/// 1260 to the power of e, modulo 12289.
-pub fn plain_12289(e: u8) -> u16
-    ensures { result ≡ (1260 ^ e) % 12289 }
+/// The powers of 1260 modulo 12289.
+pub fn plain_12289() -> &'static [u16; 256]
+    ensures { Powers 1260 12289 result.now }
 {
-    PLAIN_12289[e as usize]
+    &PLAIN_12289
 }
 
 const JOINT_7681: [u32; 256] = [
@@ -112,11 +115,11 @@ const JOINT_7681: [u32; 256] = [
     3359696, 23418694, 24480825, 16181359, 190928,
 ];
 
-/// 1424829 to the power of e, modulo 25570049.
-pub fn joint_7681(e: u8) -> u32
-    ensures { result ≡ (1424829 ^ e) % 25570049 }
+/// The powers of 1424829 modulo 25570049.
+pub fn joint_7681() -> &'static [u32; 256]
+    ensures { Powers 1424829 25570049 result.now }
 {
-    JOINT_7681[e as usize]
+    &JOINT_7681
 }
 
 const JOINT_12289: [u32; 256] = [
@@ -150,9 +153,9 @@ const JOINT_12289: [u32; 256] = [
     26800958, 13548389, 10974803, 33197963,
 ];
 
-/// 39571840 to the power of e, modulo 40910081.
-pub fn joint_12289(e: u8) -> u32
-    ensures { result ≡ (39571840 ^ e) % 40910081 }
+/// The powers of 39571840 modulo 40910081.
+pub fn joint_12289() -> &'static [u32; 256]
+    ensures { Powers 39571840 40910081 result.now }
 {
-    JOINT_12289[e as usize]
+    &JOINT_12289
 }

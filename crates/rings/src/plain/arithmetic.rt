@@ -21,16 +21,19 @@ impl Plain {
                 modulus,
                 reciprocal: 1290167,
                 inverse: 3303,
+                powers: roots::plain_3329(),
             }),
             7681 => Ok(Plain {
                 modulus,
                 reciprocal: 559167,
                 inverse: 7621,
+                powers: roots::plain_7681(),
             }),
             12289 => Ok(Plain {
                 modulus,
                 reciprocal: 349496,
                 inverse: 12193,
+                powers: roots::plain_12289(),
             }),
             _ => Err(Refusal::Modulus),
         }
@@ -75,11 +78,7 @@ impl Ring for Plain {
     }
 
     fn power(&self, e: u8) -> u16 {
-        match self.modulus {
-            3329 => roots::plain_3329(e),
-            7681 => roots::plain_7681(e),
-            _ => roots::plain_12289(e),
-        }
+        self.powers[e as usize]
     }
 
     fn inverse(&self) -> u16 {

@@ -1,6 +1,5 @@
-use native.Mathlib.Omega.{arith}
 use Rattle.algebra.proofs.Tables.{power_at}
 use Rattle.roots.proofs.joint_12289.Goals as goal
 
 pub returns : goal.returns
-returns c = power_at 39571840 40910081 c.args.e (omega arith)
+returns c = record { at = power_at 39571840 40910081 }
