@@ -10,7 +10,7 @@ use Rattle.histories.specs.declared.register.Register.{Register}
 use Rattle.histories.specs.Forms.{in_work, whole}
 use Rattle.histories.specs.Calls.{State, empty_record, form_of, Kind, polynomial, transform}
 use Rattle.histories.specs.Serves.{put}
-use Rattle.records.specs.Rows.{rows, proper, Proper, Alone, Single, Listed}
+use Rattle.records.specs.Rows.{rows, proper, Proper, Alone, Kept}
 use Rattle.records.specs.Tables.{with_register, with_form}
 
 row_at : (rs : List Register) (r : ℕ) (v : Register) → r < length rs → (k : ℕ) → rows (set rs r v) k ≡ put r v (rows rs) k
@@ -31,12 +31,6 @@ changed rs d v w ms h e = rw (e, rows_set rs d w h)
 pub layered : (rs : List Register) (r : ℕ) (F : Form) (ms ms' : List ℕ) → r < length rs → ms ≡ ms' →
     ◌≡◌ {A = State} (record { registers = rows (set rs r (with_form F (rows rs r))); masks = ms }) (record { registers = put r (with_form F (rows rs r)) (rows rs); masks = ms' })
 layered rs r F ms ms' h e = rw (e, rows_set rs r (with_form F (rows rs r)) h)
-
--- what always holds
-pub record Kept (S : ℕ → Register) (count : ℕ) : Type 0 where
-  pub proper : Proper S
-  pub single : Single S
-  pub listed : Listed S count
 
 idle_proper : (F : Form) → in_work F ≡ false → proper F ≡ true
 idle_proper Empty h = refl

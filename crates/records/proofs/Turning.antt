@@ -1,8 +1,8 @@
 -- What the checks of a layer and the table's invariant give.
-use Rattle.std.proofs.Common.{◌≡◌, ℕ, suc, ◌-◌, ◌<◌, ◌≤◌, Bool, true, false, cond, not, ◌&&◌, ◌||◌, eqb, leb, List, [], ◌∷◌, length, take, sym, refl, ap, ◌∙◌, ⊎_elim, arith}
+use Rattle.std.proofs.Common.{◌≡◌, ℕ, suc, ◌-◌, ◌<◌, ◌≤◌, Bool, true, false, cond, not, ◌&&◌, ◌||◌, eqb, leb, List, [], ◌∷◌, length, sym, refl, ap, ◌∙◌, ⊎_elim, arith}
 use mathlib.Core.Option.{none}
 use Rattle.std.proofs.lemmas.Bool.Decides.{nat_tests}
-use Rattle.std.proofs.lemmas.List.{length-take-le, get_or_past}
+use Rattle.std.proofs.lemmas.List.{get_or_past}
 use Rattle.std.proofs.lemmas.Bool.{true≢false, and_parts, and_from, or_cases, or_from, cases_eq, cases_lt, eq-eqb, ne_eqb, eqb-true, leb-true, le-leb, lt-ltb}
 use Rattle.rings.specs.declared.refusal.Refusal.TheVariants as refuse
 use Rattle.rings.specs.Refusals.{test, scan, first, flaw}
@@ -16,10 +16,9 @@ use Rattle.histories.specs.Forms.{in_work, turns, done_of, form_after}
 use Rattle.histories.specs.declared.index.Index.{Index}
 use Rattle.histories.specs.Calls.{empty_record, sized, used, eight, free, turn, rules}
 use Rattle.records.specs.declared.turn.Turn.{Turn}
-use Rattle.records.specs.Rows.{rows, proper, Alone, Single}
+use Rattle.records.specs.Rows.{rows, proper, Alone, Single, Kept}
 use Rattle.records.specs.Tables.{carried}
 use Rattle.records.specs.Turns.{Turns}
-use Rattle.records.proofs.Changes.{Kept}
 use Rattle.records.proofs.Chains.{passed, passed_both, unflawed}
 use Rattle.records.proofs.Eights.{each_of_eight}
 
@@ -111,18 +110,18 @@ pub asks_masks : (S : ℕ → Register) (lent : ℕ) (register : Index) (way : D
 asks_masks S lent register way masks h j b layer l = rw (l, asks_busy S lent register way masks h j, unflawed _ _ b)
 
 -- what a layer that passes them may count on
-pub turns_found : (rs : List Register) (count : ℕ) (store : List ℕ) (way : Direction) (masks : List ℕ) (x : Turn) →
-    Kept (rows rs) count → length rs ≡ 8 → count ≤ length store → x.layer.number ≡ suc (done_of (rows rs x.register.number).form) →
+pub turns_found : (rs : List Register) (list : List ℕ) (way : Direction) (masks : List ℕ) (x : Turn) →
+    Kept (rows rs) (length list) → length rs ≡ 8 → x.layer.number ≡ suc (done_of (rows rs x.register.number).form) →
     x.next ≡ form_after way x.layer.number → flaw (free (rows rs) x.register.number) eight ≡ none → suits 7 x.layer.number masks ≡ true →
-    Turns (record { registers = rows rs; masks = take count store }) way x.register.number masks x
-turns_found rs count store way masks x k size fits e n f out =
+    Turns (record { registers = rows rs; masks = list }) way x.register.number masks x
+turns_found rs list way masks x k size e n f out =
     let layer = x.layer in
     record {
       register_is = refl;
       layer_is = e;
       next_is = n;
       outgoing = out;
-      incoming = rw e (carried_suits (rows rs x.register.number).form (take count store) (k.proper x.register.number) (λ w. rw (length-take-le count store fits) (k.listed x.register.number w)));
+      incoming = rw e (carried_suits (rows rs x.register.number).form list (k.proper x.register.number) (k.listed x.register.number));
       fine = rw n (after_proper way layer.number layer.first layer.last);
       alone = others (rows rs) x.register.number k.single (beyond_idle rs size) f;
       few = suits_short layer.number masks out;

@@ -34,3 +34,9 @@ Single S = (r k : ℕ) → (in_work (S r).form && in_work (S k).form) ≡ true �
 -- if some register is in work, the last layer took a list of this length
 abbrev pub Listed : (ℕ → Register) → (count : ℕ) → Type 0
 Listed S count = (r : ℕ) → in_work (S r).form ≡ true → is_list_length count ≡ true
+
+-- what a table always keeps
+pub record Kept (S : ℕ → Register) (count : ℕ) : Type 0 where
+  pub proper : Proper S
+  pub single : Single S
+  pub listed : Listed S count

@@ -1,5 +1,5 @@
 -- What a table stands for, and its changes.
-use Rattle.std.specs.Prelude.{ℕ, cond, List, [], take, ◌==◌}
+use Rattle.std.specs.Prelude.{ℕ, cond, List, [], ◌==◌}
 use Rattle.histories.specs.declared.register.Form.{Form}
 use Rattle.histories.specs.declared.register.Register.{Register}
 use Rattle.histories.specs.Calls.{State}
@@ -9,7 +9,7 @@ use Rattle.records.specs.Rows.{rows}
 
 -- what a table stands for
 abbrev pub state : Table → State
-state x = record { registers = rows x.records; masks = take x.count x.store }
+state x = record { registers = rows x.records; masks = x.masks.items }
 
 -- with the record of one register changed
 abbrev pub with_register : (d : ℕ) → Register → State → State

@@ -1,6 +1,8 @@
-ghost use Rattle.std.specs.Prelude.{◌≡◌, ◌≤◌, length};
-ghost use Rattle.records.specs.Rows.{rows, Proper, Single, Listed};
+ghost use Rattle.std.specs.Prelude.{◌≡◌, length};
+ghost use Rattle.arrayvec.specs.ArrayVec.{array_vec_len};
+ghost use Rattle.records.specs.Rows.{rows, Kept};
 
+use arrayvec::ArrayVec;
 use histories::Register;
 
 pub mod changes;
@@ -9,14 +11,8 @@ pub mod changes;
 #[derive(Drop)]
 pub struct Table {
     records: [Register; 8],
-    store: [u8; 128],
-    // how many bytes of the store are the list
-    count: u8,
-    ghost proper: { Proper (rows records) },
-    ghost single: { Single (rows records) },
-    ghost listed: { Listed (rows records) count },
-    ghost short: { count ≤ 128 },
-    // the lengths, for whoever reads no element
+    masks: ArrayVec<u8, 128>,
+    ghost kept: { Kept (rows records) (array_vec_len masks) },
+    // the length, for whoever reads no element
     ghost eight: { length records ≡ 8 },
-    ghost room: { length store ≡ 128 },
 }

@@ -8,6 +8,7 @@ ghost use Rattle.records.specs.Tables.{state, with_register, advanced, carried};
 ghost use Rattle.histories.specs.Kinds.{kind_of, operation_of};
 
 use super::Table;
+use arrayvec::ArrayVec;
 use engine::Layer;
 use histories::{Form, Index, Join, Kind, Operation, Register};
 
@@ -64,8 +65,7 @@ impl Table {
     {
         Table {
             records: [EMPTY; 8],
-            store: [0; 128],
-            count: 0,
+            masks: ArrayVec::new(),
         }
     }
 
@@ -106,11 +106,8 @@ impl Table {
         requires suited { in_work next ≡ true → is_list_length (length masks.now) ≡ true }
         ensures { state self.new ≡ advanced register.number next masks.now (state self.old) }
     {
-        let record = &mut self.records[register.number as usize];
-        record.form = next;
-        let n = masks.len();
-        self.store[0..n].copy_from_slice(masks);
-        self.count = n as u8;
+        self.records[register.number as usize].form = next;
+        self.masks = ArrayVec::try_from(masks).unwrap();
     }
 
     /// The record of a register.
@@ -124,11 +121,6 @@ impl Table {
     pub fn incoming(&self, layer: Layer) -> &[u8]
         ensures { result.now ≡ carried layer.number (state self.now).masks }
     {
-        let n = if layer.number == 1 {
-            0
-        } else {
-            self.count as usize
-        };
-        &self.store[0..n]
+        if layer.number == 1 { &[] } else { &self.masks }
     }
 }

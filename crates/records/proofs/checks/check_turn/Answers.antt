@@ -1,4 +1,4 @@
-use Rattle.std.proofs.Common.{sym, ◌∙◌, arith}
+use Rattle.std.proofs.Common.{sym, ◌∙◌}
 use Rattle.std.proofs.lemmas.Result.{err_from_is_err_and}
 use Rattle.records.specs.Rows.{rows}
 use Rattle.records.proofs.Chains.{passed, unflawed, complains}
@@ -31,9 +31,9 @@ returns c =
     (record {
       says = c.in_ok-suited.ensures ∙ sym list;
       found =
-          turns_found s.records s.count s.store c.args.way c.args.masks.now
+          turns_found s.records s.masks.items c.args.way c.args.masks.now
           (record { register = c.in_ok-register.register; layer = c.in_ok-layer.layer; next = _ })
-          (record { proper = s.proper; single = s.single; listed = s.listed }) s.eight (omega arith)
+          s.kept s.eight
           c.in_ok-layer.ensures.found c.form_after-next.ensures
           (unflawed _ _ c.in_ok-unhindered.ensures) (passed _ _ c.in_ok-suited.ensures);
     })

@@ -3,15 +3,9 @@ use Rattle.std.proofs.lemmas.List.{length-set}
 use Rattle.records.proofs.Changes.{idle_kept}
 use Rattle.records.proofs.table.Table.clear.Goals as goal
 
-pub invariant_of-self : goal.invariant_of-self
-invariant_of-self c =
-    let s = c.args.self.now in
-    let k = idle_kept s.records c.args.register.number _ s.count (omega arith) (record { proper = s.proper; single = s.single; listed = s.listed }) refl in
-    record {
-      proper = k.proper;
-      single = k.single;
-      listed = k.listed;
-      short = s.short;
-      eight = length-set s.records c.args.register.number _ ∙ s.eight;
-      room = s.room;
-    }
+pub invariant_of-self-clause-kept : goal.invariant_of-self-clause-kept
+invariant_of-self-clause-kept c =
+    let s = c.args.self.now in idle_kept s.records c.args.register.number _ _ (omega arith) s.kept refl
+
+pub invariant_of-self-clause-eight : goal.invariant_of-self-clause-eight
+invariant_of-self-clause-eight c = length-set c.args.self.now.records c.args.register.number _ ∙ c.args.self.now.eight

@@ -5,17 +5,10 @@ use Rattle.records.proofs.Changes.{idle_kept, loaded_idle}
 use Rattle.histories.specs.Kinds.{kind_of}
 use Rattle.records.proofs.table.Table.load.Goals as goal
 
-pub invariant_of-self : goal.invariant_of-self
-invariant_of-self c =
+pub invariant_of-self-clause-kept : goal.invariant_of-self-clause-kept
+invariant_of-self-clause-kept c =
     let s = c.args.self.now in
-    let k =
-    idle_kept s.records c.args.register.number _ s.count (omega arith)
-    (record { proper = s.proper; single = s.single; listed = s.listed }) (ap in_work c.loaded_form-record.ensures ∙ loaded_idle (kind_of c.args.kind)) in
-    record {
-      proper = k.proper;
-      single = k.single;
-      listed = k.listed;
-      short = s.short;
-      eight = length-set s.records c.args.register.number _ ∙ s.eight;
-      room = s.room;
-    }
+    idle_kept s.records c.args.register.number _ _ (omega arith) s.kept (ap in_work c.loaded_form-record.ensures ∙ loaded_idle (kind_of c.args.kind))
+
+pub invariant_of-self-clause-eight : goal.invariant_of-self-clause-eight
+invariant_of-self-clause-eight c = length-set c.args.self.now.records c.args.register.number _ ∙ c.args.self.now.eight
