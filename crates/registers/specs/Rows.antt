@@ -1,5 +1,5 @@
 -- What the loops over the words of registers promise.
-use Rattle.std.specs.Prelude.{◌≡◌, ℕ, ◌<◌, false, List, length, ◌==◌, slice_index_or}
+use Rattle.std.specs.Prelude.{◌≡◌, ℕ, ◌+◌, ◌*◌, ◌<◌, false, List, length, ◌==◌, slice_index_or}
 use Rattle.guarded.specs.Model.{Guarded, Lifted}
 use Rattle.histories.specs.Calls.{part, plains, residues}
 use Rattle.histories.specs.Serves.{Numbered}
@@ -18,3 +18,9 @@ pub record Holding {W : Type 0} (G : Guarded W) (xs cs bytes : List ℕ) (words 
 -- every word is lift(0, 0, 0)
 pub record Wiped {W : Type 0} (G : Guarded W) (words : List W) : Type 0 where
   pub at : (k : ℕ) (d : W) → k < length words → Lifted G 0 0 0 (slice_index_or words k d)
+
+-- each word of register d is one that words of a and b at its place may make, and the other registers' words are as they were
+pub record Combined {W : Type 0} (Makes : W → W → W → Type 0) (d a b : ℕ) (words words' : List W) : Type 0 where
+  pub only : Only d words words'
+  pub made : (k : ℕ) (e : W) → k < 256 →
+      Makes (slice_index_or words (256 * a + k) e) (slice_index_or words (256 * b + k) e) (slice_index_or words' (256 * d + k) e)

@@ -1,70 +1,43 @@
-ghost use Rattle.std.specs.Prelude.{◌≡◌, ℕ, ◌+◌, ◌*◌, ◌<◌, map, length};
+ghost use Rattle.std.specs.Prelude.{◌≡◌, ℕ, ◌+◌, ◌*◌, ◌<◌, map, length, slice_index_or};
 ghost use Rattle.std.proofs.Math.Option.{none};
 ghost use Rattle.rings.specs.Refusals.{flaw};
-ghost use Rattle.guarded.specs.Model.{guarded as model};
-ghost use Rattle.histories.specs.Calls.{part, meanings, plus, minus};
+ghost use Rattle.guarded.specs.Model.{model};
+ghost use Rattle.histories.specs.Calls.{part, meanings};
 ghost use Rattle.histories.specs.Serves.{Meaning, combined};
-ghost use Rattle.registers.specs.Rows.{Only};
+ghost use Rattle.registers.specs.Rows.{Only, Combined};
 ghost use Rattle.histories.specs.Kinds.{operation_of};
 
 use crate::product::multiply_registers;
 use guarded::GuardedRing;
-use histories::Operation;
+use histories::{Join, Operation};
 use rings::Ring;
 
-// Writes the sums of the words of a and b into d.
-fn add_registers<G: GuardedRing>(ring: &G, words: &mut [G::Word], d: u8, a: u8, b: u8)
+// Writes into d what `combine` makes of the words of a and b, place by place.
+fn combine_registers<W: Copy, F: Fn(W, W) -> W>(words: &mut [W], join: Join, combine: F)
     requires size { length words.old ≡ 2048 }
-    requires known { (d < 8) × ((a < 8) × (b < 8)) }
-    requires left { flaw (G.element ring.now) (part words.old a) ≡ none }
-    requires right { flaw (G.element ring.now) (part words.old b) ≡ none }
-    ensures only { Only d words.old words.new }
-    ensures means { Meaning (model G.check G.redundancy G.root G.element G.meaning G.number ring.now) (combined (meanings (model G.check G.redundancy G.root G.element G.meaning G.number ring.now)) plus (map (G.meaning ring.now) (part words.old a)) (map (G.meaning ring.now) (part words.old b))) (part words.new d) }
+    requires callable { (k : ℕ) (e : W) → k < 256 → F.pre combine (slice_index_or words.old (256 * join.a.number + k) e) (slice_index_or words.old (256 * join.b.number + k) e) }
+    ensures { Combined (F.post combine) join.d.number join.a.number join.b.number words.old words.new }
 {
-    let (to, left, right) = (256 * d as usize, 256 * a as usize, 256 * b as usize);
+    let to = 256 * join.d.number as usize;
+    let left = 256 * join.a.number as usize;
+    let right = 256 * join.b.number as usize;
+    // The three registers lie in one slice, and d may be a or b, so no iterators over their words can be borrowed at once.
     for k in 0..256 {
-        let x = words[left + k];
-        let y = words[right + k];
-        words[to + k] = ring.sum(x, y);
-    }
-}
-
-// Writes the differences of the words of a and b into d.
-fn subtract_registers<G: GuardedRing>(ring: &G, words: &mut [G::Word], d: u8, a: u8, b: u8)
-    requires size { length words.old ≡ 2048 }
-    requires known { (d < 8) × ((a < 8) × (b < 8)) }
-    requires left { flaw (G.element ring.now) (part words.old a) ≡ none }
-    requires right { flaw (G.element ring.now) (part words.old b) ≡ none }
-    ensures only { Only d words.old words.new }
-    ensures means { Meaning (model G.check G.redundancy G.root G.element G.meaning G.number ring.now) (combined (meanings (model G.check G.redundancy G.root G.element G.meaning G.number ring.now)) minus (map (G.meaning ring.now) (part words.old a)) (map (G.meaning ring.now) (part words.old b))) (part words.new d) }
-{
-    let (to, left, right) = (256 * d as usize, 256 * a as usize, 256 * b as usize);
-    for k in 0..256 {
-        let x = words[left + k];
-        let y = words[right + k];
-        words[to + k] = ring.difference(x, y);
+        words[to + k] = combine(words[left + k], words[right + k]);
     }
 }
 
 /// Writes the sum, the difference or the slot product of the registers a and b into d, which may be one of them.
-pub fn join_registers<G: GuardedRing>(
-    ring: &G,
-    operation: Operation,
-    words: &mut [G::Word],
-    d: u8,
-    a: u8,
-    b: u8,
-)
+pub fn join_registers<G: GuardedRing>(ring: &G, words: &mut [G::Word], join: Join)
     requires size { length words.old ≡ 2048 }
-    requires known { (d < 8) × ((a < 8) × (b < 8)) }
-    requires left { flaw (G.element ring.now) (part words.old a) ≡ none }
-    requires right { flaw (G.element ring.now) (part words.old b) ≡ none }
-    ensures only { Only d words.old words.new }
-    ensures means { Meaning (model G.check G.redundancy G.root G.element G.meaning G.number ring.now) (combined (meanings (model G.check G.redundancy G.root G.element G.meaning G.number ring.now)) (operation_of operation) (map (G.meaning ring.now) (part words.old a)) (map (G.meaning ring.now) (part words.old b))) (part words.new d) }
+    requires left { flaw (G.element ring.now) (part words.old join.a.number) ≡ none }
+    requires right { flaw (G.element ring.now) (part words.old join.b.number) ≡ none }
+    ensures only { Only join.d.number words.old words.new }
+    ensures means { Meaning (model G.GuardedRing ring.now) (combined (meanings (model G.GuardedRing ring.now)) (operation_of join.operation) (map (G.meaning ring.now) (part words.old join.a.number)) (map (G.meaning ring.now) (part words.old join.b.number))) (part words.new join.d.number) }
 {
-    match operation {
-        Operation::Plus => add_registers(ring, words, d, a, b),
-        Operation::Minus => subtract_registers(ring, words, d, a, b),
-        Operation::Times => multiply_registers(ring, words, d, a, b),
+    match join.operation {
+        Operation::Plus => combine_registers(words, join, |x, y| ring.sum(x, y)),
+        Operation::Minus => combine_registers(words, join, |x, y| ring.difference(x, y)),
+        Operation::Times => multiply_registers(ring, words, join),
     }
 }

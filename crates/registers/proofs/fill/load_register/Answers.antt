@@ -21,6 +21,6 @@ pub returns : goal.returns
 returns g c =
     let f = filled_all _ c.loop-k.k 256 _ _ _ (omega arith) c.loop-k.invariant in
     record {
-      only = only_filled c.args.r _ _ _ f;
-      holds = holding _ _ _ c.args.r _ c.requires.room.0 c.requires.room.1 c.requires.sizes.1.1 _ _ c.requires.sizes.0 c.requires.sizes.1.0 f;
+      only = only_filled c.args.r.number _ _ _ f;
+      holds = holding _ _ _ c.args.r.number _ c.requires.room c.args.r.known c.requires.sizes.1.1 _ _ c.requires.sizes.0 c.requires.sizes.1.0 f;
     }

@@ -8,5 +8,5 @@ abbrev pub invariant-loop-k : goal.invariant-loop-k
 invariant-loop-k g l =
     let r = g.G.Ring in
     let h = g.G.GuardedRing in
-    Filled (256 * l.r) l.k (Placed (guarded h.check h.redundancy r.root r.element r.meaning h.number l.ring) l.xs l.cs l.bytes)
+    Filled (256 * l.fn.r.number) l.k (Placed (guarded h.check h.redundancy r.root r.element r.meaning h.number l.ring) l.xs l.cs l.bytes)
     l.initial.words l.words

@@ -11,8 +11,8 @@ loop-k-init g c = filled_none _ _ _
 
 pub split-s-requires : goal.split-s-requires
 split-s-requires g c =
-    old_sound _ c.args.r c.args.r c.loop-k.k c.loop-k.k _ _ _ _ c.loop-k.invariant (omega arith) c.loop-k-test.true
-    c.requires.room.0 c.requires.room.1 c.requires.tested c.index-words-base.is
+    old_sound _ c.args.r.number c.args.r.number c.loop-k.k c.loop-k.k _ _ _ _ c.loop-k.invariant (omega arith) c.loop-k-test.true
+    c.requires.room c.args.r.known c.requires.tested c.index-words-base.is
 
 pub lift-requires : goal.lift-requires
 lift-requires g c =
@@ -29,8 +29,8 @@ loop-k-preserved g c =
     let h = g.G.GuardedRing in
     let model = guarded h.check h.redundancy r.root r.element r.meaning h.number c.args.ring.now in
     filled_more _ c.loop-k.k _ _ _ _ (omega arith) c.loop-k.invariant
-    (renumber model c.args.words.now c.args.r c.loop-k.k c.args.bytes.now c.index-words-base.result c.lift.result _ _
-    (λ d. old_read c.args.r c.args.r c.loop-k.k c.loop-k.k _ _ _ _ d c.loop-k.invariant (omega arith) c.loop-k-test.true (omega arith) c.index-words-base.is)
+    (renumber model c.args.words.now c.args.r.number c.loop-k.k c.args.bytes.now c.index-words-base.result c.lift.result _ _
+    (λ d. old_read c.args.r.number c.args.r.number c.loop-k.k c.loop-k.k _ _ _ _ d c.loop-k.invariant (omega arith) c.loop-k-test.true (omega arith) c.index-words-base.is)
     c.split-s.ensures.coefficient c.split-s.ensures.check c.lift.ensures)
 
 pub returns : goal.returns
@@ -38,7 +38,7 @@ returns g c =
     let law = g.met.G.GuardedRing.lawful c.args.ring.now in
     let f = filled_all _ c.loop-k.k 256 _ _ _ (omega arith) c.loop-k.invariant in
     record {
-      only = only_filled c.args.r _ _ _ f;
-      means = renumbered_means _ _ _ c.args.r _ c.requires.room.0 c.requires.room.1 c.requires.size law c.requires.tested f;
-      numbers = renumbered_numbers _ _ _ c.args.r _ c.requires.room.0 c.requires.room.1 c.requires.size law c.requires.tested f;
+      only = only_filled c.args.r.number _ _ _ f;
+      means = renumbered_means _ _ _ c.args.r.number _ c.requires.room c.args.r.known c.requires.size law c.requires.tested f;
+      numbers = renumbered_numbers _ _ _ c.args.r.number _ c.requires.room c.args.r.known c.requires.size law c.requires.tested f;
     }

@@ -24,12 +24,12 @@ slot_product-low-requires g c =
     let f = c.loop-slot.invariant in
     record {
       left = (
-        old_sound _ c.args.a c.args.d n n _ _ _ _ f (omega arith) here c.requires.size c.requires.known.1.0 c.requires.left c.index-words-left.is,
-        old_sound _ c.args.a c.args.d n (n + 1) _ _ _ _ f (omega arith) next c.requires.size c.requires.known.1.0 c.requires.left c.index-words-left-in-loop-slot.is,
+        old_sound _ c.args.join.a.number c.args.join.d.number n n _ _ _ _ f (omega arith) here c.requires.size c.args.join.a.known c.requires.left c.index-words-left.is,
+        old_sound _ c.args.join.a.number c.args.join.d.number n (n + 1) _ _ _ _ f (omega arith) next c.requires.size c.args.join.a.known c.requires.left c.index-words-left-in-loop-slot.is,
       );
       right = (
-        old_sound _ c.args.b c.args.d n n _ _ _ _ f (omega arith) here c.requires.size c.requires.known.1.1 c.requires.right c.index-words-right.is,
-        old_sound _ c.args.b c.args.d n (n + 1) _ _ _ _ f (omega arith) next c.requires.size c.requires.known.1.1 c.requires.right c.index-words-right-in-loop-slot.is,
+        old_sound _ c.args.join.b.number c.args.join.d.number n n _ _ _ _ f (omega arith) here c.requires.size c.args.join.b.known c.requires.right c.index-words-right.is,
+        old_sound _ c.args.join.b.number c.args.join.d.number n (n + 1) _ _ _ _ f (omega arith) next c.requires.size c.args.join.b.known c.requires.right c.index-words-right-in-loop-slot.is,
       );
       factor = c.power-c.ensures.stays;
     }
@@ -44,14 +44,14 @@ loop-slot-preserved g c =
     let next : n + 1 < 256 = omega arith in
     let slot : c.loop-slot.slot < 128 = omega arith in
     let f = c.loop-slot.invariant in
-    let a0 = read_number meaning ws c.args.a n _ c.requires.size c.requires.known.1.0 here
-    (λ e. old_read c.args.a c.args.d n n _ _ _ _ e f (omega arith) here (omega arith) c.index-words-left.is) in
-    let a1 = read_number meaning ws c.args.a (n + 1) _ c.requires.size c.requires.known.1.0 next
-    (λ e. old_read c.args.a c.args.d n (n + 1) _ _ _ _ e f (omega arith) next (omega arith) c.index-words-left-in-loop-slot.is) in
-    let b0 = read_number meaning ws c.args.b n _ c.requires.size c.requires.known.1.1 here
-    (λ e. old_read c.args.b c.args.d n n _ _ _ _ e f (omega arith) here (omega arith) c.index-words-right.is) in
-    let b1 = read_number meaning ws c.args.b (n + 1) _ c.requires.size c.requires.known.1.1 next
-    (λ e. old_read c.args.b c.args.d n (n + 1) _ _ _ _ e f (omega arith) next (omega arith) c.index-words-right-in-loop-slot.is) in
+    let a0 = read_number meaning ws c.args.join.a.number n _ c.requires.size c.args.join.a.known here
+    (λ e. old_read c.args.join.a.number c.args.join.d.number n n _ _ _ _ e f (omega arith) here (omega arith) c.index-words-left.is) in
+    let a1 = read_number meaning ws c.args.join.a.number (n + 1) _ c.requires.size c.args.join.a.known next
+    (λ e. old_read c.args.join.a.number c.args.join.d.number n (n + 1) _ _ _ _ e f (omega arith) next (omega arith) c.index-words-left-in-loop-slot.is) in
+    let b0 = read_number meaning ws c.args.join.b.number n _ c.requires.size c.args.join.b.known here
+    (λ e. old_read c.args.join.b.number c.args.join.d.number n n _ _ _ _ e f (omega arith) here (omega arith) c.index-words-right.is) in
+    let b1 = read_number meaning ws c.args.join.b.number (n + 1) _ c.requires.size c.args.join.b.known next
+    (λ e. old_read c.args.join.b.number c.args.join.d.number n (n + 1) _ _ _ _ e f (omega arith) next (omega arith) c.index-words-right-in-loop-slot.is) in
     let small = g.met.G.Ring.below s _ c.power-c.ensures.stays in
     slot_more _ c.loop-slot.slot _ _ _ _ _ (omega arith) slot f
     (record {
@@ -71,7 +71,7 @@ returns g c =
     let model = guarded h.check h.redundancy r.root r.element r.meaning h.number s in
     let f = filled_all _ (2 * c.loop-slot.slot) 256 _ _ _ (omega arith) c.loop-slot.invariant in
     record {
-      only = only_filled c.args.d _ _ _ f;
+      only = only_filled c.args.join.d.number _ _ _ f;
       means =
-          slot_products model (g.met.G.GuardedRing.lawful s) _ _ c.args.d c.args.a c.args.b c.requires.size c.requires.known.0 _ (g.met.G.GuardedRing.joint s) f;
+          slot_products model (g.met.G.GuardedRing.lawful s) _ _ c.args.join.d.number c.args.join.a.number c.args.join.b.number c.requires.size c.args.join.d.known _ (g.met.G.GuardedRing.joint s) f;
     }

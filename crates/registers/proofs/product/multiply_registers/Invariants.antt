@@ -10,5 +10,5 @@ invariant-loop-slot g l =
     let r = g.G.Ring in
     let s = l.ring in
     let meanings = λ (q : ℕ). coefficient (map (r.meaning s) (part l.initial.words q)) in
-    Filled (256 * l.d) (2 * l.slot) (Multiplied (r.element s) (r.meaning s) (r.modulus s) (r.root s) (meanings l.a) (meanings l.b))
+    Filled (256 * l.fn.join.d.number) (2 * l.slot) (Multiplied (r.element s) (r.meaning s) (r.modulus s) (r.root s) (meanings l.fn.join.a.number) (meanings l.fn.join.b.number))
     l.initial.words l.words
