@@ -30,19 +30,7 @@ pub fn turn_register<G: GuardedRing>(
     let base = 256 * r.number as usize;
     let row = &mut words[base..base + 256];
     match way {
-        Direction::Forward => forward_layer(
-            ring,
-            row,
-            masked.layer.number,
-            masked.before,
-            masked.list,
-        ),
-        Direction::Inverse => inverse_layer(
-            ring,
-            row,
-            masked.layer.number,
-            masked.before,
-            masked.list,
-        ),
+        Direction::Forward => forward_layer(ring, row, masked),
+        Direction::Inverse => inverse_layer(ring, row, masked),
     }
 }
