@@ -11,7 +11,7 @@ use Rattle.algebra.specs.Congruence.{Same}
 use Rattle.algebra.specs.Polynomials.{coefficient}
 use Rattle.algebra.proofs.Modular.{same_of, same_sym, same_mod, same_by, same_add, ◌⨾◌}
 use Rattle.algebra.proofs.Lists.{listed_is}
-use Rattle.histories.specs.Operations.{Base, witness}
+use Rattle.histories.specs.Operations.{witness}
 
 abbrev pub value : (p a b k : ℕ) → ℕ
 value p a b k = (a + b * (2 * k + pred p * 254)) % p
@@ -35,13 +35,11 @@ pub values_more : (p a b k x : ℕ) (xs : List ℕ) → k < length xs → x ≡ 
 values_more p a b k x xs room here before =
     below_more _ _ (λ j h. get_or-set_other xs k j x 0 (omega arith) ∙ before j h) (get_or-set_same xs k x 0 room ∙ here)
 
-pub coefficients_are : (B : Base) (a b : ℕ) (xs : List ℕ) → 0 < B.modulus → length xs ≡ 256 → ((k : ℕ) → k < 256 → coefficient xs k ≡ value B.modulus a b k) → xs ≡ witness B a b
+pub coefficients_are : (p w a b : ℕ) (xs : List ℕ) → 0 < p → length xs ≡ 256 → ((k : ℕ) → k < 256 → coefficient xs k ≡ value p a b k) →
+    xs ≡ witness (record { modulus = p; root = w }) a b
 unfolding witness
-coefficients_are B a b xs some size at = go B.modulus some at
-  where
-    go : (p : ℕ) → 0 < p → ((k : ℕ) → k < 256 → coefficient xs k ≡ value p a b k) → xs ≡ witness (record { modulus = p; root = B.root }) a b
-    go zero h f = absurd (omega arith)
-    go (suc neg) h f =
-        sym (listed_is {neg = neg} (λ k. a + b * (2 * k + neg * 254)) xs
-        (record { size = size; small = λ j l. rw (f j l) (mod-lt (a + b * (2 * j + neg * 254)) h) })
-        (λ j l. same_sym (same_of (f j l) ⨾ same_mod (a + b * (2 * j + neg * 254)))))
+coefficients_are zero w a b xs some size at = absurd (omega arith)
+coefficients_are (suc neg) w a b xs some size at =
+    sym (listed_is {neg = neg} (λ k. a + b * (2 * k + neg * 254)) xs
+    (record { size = size; small = λ j l. rw (at j l) (mod-lt (a + b * (2 * j + neg * 254)) some) })
+    (λ j l. same_sym (same_of (at j l) ⨾ same_mod (a + b * (2 * j + neg * 254)))))

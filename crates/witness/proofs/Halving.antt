@@ -1,14 +1,12 @@
 -- The layers of J by the numbers of its groups.
 use Prim.Native.Nat.{ℕ, zero, suc, pred, ◌+◌, ◌-◌, ◌*◌, ◌/◌, ◌%◌, ◌^◌, ◌<◌, ◌≤◌}
-use mathlib.Core.Path.{◌≡◌, refl, ap, ◌∙◌, subst}
+use mathlib.Core.Path.{◌≡◌, refl, ◌∙◌, subst}
 use mathlib.Core.List.{List, ◌∷◌}
-use mathlib.Core.Logic.{◌≢◌}
 use native.Mathlib.Omega.{arith}
 use native.Mathlib.Decide.{dec_lt, ℕ_discrete}
 use lib.Dec.{lit<}
 use lib.Pow.{pow_mono, shl_exact}
-use lib.ListN.{length, set, replicate, length-set}
-use lib.Seq.{get_or-set_same, get_or-set_other}
+use lib.ListN.{length, replicate, length-set}
 use Rattle.algebra.specs.Congruence.{Same}
 use Rattle.algebra.specs.Layers.{bitrev, layers, ForwardPairs}
 use Rattle.algebra.specs.Product.{ones}
@@ -17,75 +15,51 @@ use Rattle.algebra.proofs.Modular.{same_of, same_refl, same_sym, same_add, same_
 use Rattle.algebra.proofs.Layers.{forward_is}
 use Rattle.algebra.proofs.Steps.{twist, zeta, layers_zero, layers_suc}
 use Rattle.witness.specs.Groups.{Halved, Groups}
+use Rattle.witness.proofs.Pairs.{pair_set, pair_first, pair_second, pair_other}
 use Rattle.witness.proofs.Numbers.{below, half_low, half_high}
 
 pub halved_none : (p w count : ℕ) (xs : List ℕ) → ((k : ℕ) → coefficient xs k < p) → Halved p w count count xs xs
 halved_none p w count xs small =
     record { size = refl; small = small; before = λ g h. refl; low = λ g h l. absurd (omega arith); high = λ g h l. absurd (omega arith) }
 
--- one group more: its halves x and y, reduced by m, which is p, take the places 2 g and 2 g + 1
-module _ (p w count from g m : ℕ) (xs ys : List ℕ) (H : Halved p w count from xs ys) (next : from ≡ g + 1) (room : 2 * g + 1 < length ys) (some : 0 < p) (em : m ≡ p)
-    (e z t x y : ℕ) (ee : e ≡ bitrev 7 (count + g)) (ez : z ≡ (w ^ e) % p) (et : t ≡ (coefficient ys g * z) % m)
-    (ex : x ≡ (coefficient ys g + t) % m) (ey : y ≡ (coefficient ys g + (m - t)) % m) where
-  turned : t ≡ (coefficient ys g * z) % p
-  turned = et ∙ ap (λ (n : ℕ). (coefficient ys g * z) % n) em
-
-  up : x ≡ (coefficient ys g + t) % p
-  up = ex ∙ ap (λ (n : ℕ). (coefficient ys g + t) % n) em
-
-  down : y ≡ (coefficient ys g + (p - t)) % p
-  down = ey ∙ ap (λ (n : ℕ). (coefficient ys g + (n - t)) % n) em
-
-  zs : List ℕ
-  zs = set (set ys (2 * g) x) (2 * g + 1) y
-
-  other : (k : ℕ) → k ≢ 2 * g → k ≢ 2 * g + 1 → coefficient zs k ≡ coefficient ys k
-  unfolding zs
-  other k h l = get_or-set_other (set ys (2 * g) x) (2 * g + 1) k y 0 l ∙ get_or-set_other ys (2 * g) k x 0 h
-
-  first : coefficient zs (2 * g) ≡ x
-  unfolding zs
-  first = get_or-set_other (set ys (2 * g) x) (2 * g + 1) (2 * g) y 0 (omega arith) ∙ get_or-set_same ys (2 * g) x 0 (omega arith)
-
-  second : coefficient zs (2 * g + 1) ≡ y
-  unfolding zs
-  second = get_or-set_same (set ys (2 * g) x) (2 * g + 1) y 0 (simp length-set room)
-
+-- one group more: its halves x and y take the places 2 g and 2 g + 1
+module _ (p w count from g : ℕ) (xs ys : List ℕ) (H : Halved p w count from xs ys) (next : from ≡ g + 1) (room : 2 * g + 1 < length ys) (some : 0 < p)
+    (e z t x y : ℕ) (ee : e ≡ bitrev 7 (count + g)) (ez : z ≡ (w ^ e) % p) (et : t ≡ (coefficient ys g * z) % p)
+    (ex : x ≡ (coefficient ys g + t) % p) (ey : y ≡ (coefficient ys g + (p - t)) % p) where
   kept : coefficient ys g ≡ coefficient xs g
   kept = H.before g (omega arith)
 
-  small : (k : ℕ) → coefficient zs k < p
+  small : (k : ℕ) → coefficient (pair_set ys g x y) k < p
   small k = elim (ℕ_discrete k (2 * g)) [
-    | yes u ↦ rw (u, first) (below p _ x some up)
+    | yes u ↦ rw (u, pair_first ys g x y room) (below p _ x some ex)
     | no u ↦ elim (ℕ_discrete k (2 * g + 1)) [
-      | yes v ↦ rw (v, second) (below p _ y some down)
-      | no v ↦ rw (other k u v) (H.small k)
+      | yes v ↦ rw (v, pair_second ys g x y room) (below p _ y some ey)
+      | no v ↦ rw (pair_other ys g x y k u v) (H.small k)
     ]
   ]
 
-  low : (k : ℕ) → g ≤ k → k < count → Same (pred p) (coefficient zs (2 * k)) (coefficient xs k + w ^ bitrev 7 (count + k) * coefficient xs k)
+  low : (k : ℕ) → g ≤ k → k < count → Same (pred p) (coefficient (pair_set ys g x y) (2 * k)) (coefficient xs k + w ^ bitrev 7 (count + k) * coefficient xs k)
   low k h l = elim (dec_lt g k) [
-    | yes u ↦ same_of (other (2 * k) (omega arith) (omega arith)) ⨾ H.low k (omega arith) l
+    | yes u ↦ same_of (pair_other ys g x y (2 * k) (omega arith) (omega arith)) ⨾ H.low k (omega arith) l
     | no u ↦
         let q : k ≡ g = omega arith in
-        rw (q, first, ← kept, ← ee) (half_low w e z (coefficient ys g) t p x some ez turned up)
+        rw (q, pair_first ys g x y room, ← kept, ← ee) (half_low w e z (coefficient ys g) t p x some ez et ex)
   ]
 
-  high : (k : ℕ) → g ≤ k → k < count → Same (pred p) (coefficient zs (2 * k + 1)) (coefficient xs k + pred p * (w ^ bitrev 7 (count + k) * coefficient xs k))
+  high : (k : ℕ) → g ≤ k → k < count → Same (pred p) (coefficient (pair_set ys g x y) (2 * k + 1)) (coefficient xs k + pred p * (w ^ bitrev 7 (count + k) * coefficient xs k))
   high k h l = elim (dec_lt g k) [
-    | yes u ↦ same_of (other (2 * k + 1) (omega arith) (omega arith)) ⨾ H.high k (omega arith) l
+    | yes u ↦ same_of (pair_other ys g x y (2 * k + 1) (omega arith) (omega arith)) ⨾ H.high k (omega arith) l
     | no u ↦
         let q : k ≡ g = omega arith in
-        rw (q, second, ← kept, ← ee) (half_high w e z (coefficient ys g) t p y some ez turned down)
+        rw (q, pair_second ys g x y room, ← kept, ← ee) (half_high w e z (coefficient ys g) t p y some ez et ey)
   ]
 
-  pub halved_more : Halved p w count g xs (set (set ys (2 * g) x) (2 * g + 1) y)
-  unfolding zs
+  pub halved_more : Halved p w count g xs (pair_set ys g x y)
   halved_more =
       record {
         size = simp length-set H.size;
         small = small;
-        before = λ k h. other k (omega arith) (omega arith) ∙ H.before k (omega arith);
+        before = λ k h. pair_other ys g x y k (omega arith) (omega arith) ∙ H.before k (omega arith);
         low = low;
         high = high;
       }

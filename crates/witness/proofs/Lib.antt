@@ -1,3 +1,4 @@
+pub mod Pairs
 pub mod Numbers
 pub mod Coefficients
 pub mod Halving

@@ -2,12 +2,10 @@
 use Prim.Native.Nat.{ℕ, zero, suc, pred, ◌+◌, ◌*◌, ◌%◌, ◌^◌, ◌<◌}
 use mathlib.Core.Path.{◌≡◌, sym, ◌∙◌}
 use mathlib.Core.List.{List}
-use mathlib.Core.Logic.{◌≢◌}
 use native.Mathlib.Omega.{arith}
 use native.Mathlib.Decide.{dec_lt}
 use native.Mathlib.Nat.{mod-lt}
-use lib.ListN.{length, set, length-set}
-use lib.Seq.{get_or-set_same, get_or-set_other}
+use lib.ListN.{length}
 use Rattle.algebra.specs.Congruence.{Same}
 use Rattle.algebra.specs.Layers.{ntt}
 use Rattle.algebra.specs.Slots.{gamma}
@@ -22,6 +20,7 @@ use Rattle.algebra.proofs.Lists.{listed_same, listed_is}
 use Rattle.algebra.proofs.Theorems.{products}
 use Rattle.histories.specs.Operations.{Base, transform_of, witness}
 use Rattle.witness.specs.Groups.{Groups, SlotsDue}
+use Rattle.witness.proofs.Pairs.{pair_set, pair_first, pair_second, pair_other}
 
 pub slots_none : (p w a b : ℕ) (xs numbers : List ℕ) → SlotsDue p w a b 0 xs numbers
 slots_none p w a b xs numbers = record { first = λ i h. absurd (omega arith); second = λ i h. absurd (omega arith) }
@@ -29,25 +28,22 @@ slots_none p w a b xs numbers = record { first = λ i h. absurd (omega arith); s
 pub slots_more : (p w a b n x y : ℕ) (xs ws : List ℕ) → 2 * n + 1 < length ws → SlotsDue p w a b n xs ws →
     x ≡ (a * coefficient xs n + b * (coefficient xs n * coefficient xs n + coefficient xs n * coefficient xs n * gamma 7 w n)) % p →
     y ≡ (a * coefficient xs n + b * (coefficient xs n * coefficient xs n + coefficient xs n * coefficient xs n)) % p →
-    SlotsDue p w a b (n + 1) xs (set (set ws (2 * n) x) (2 * n + 1) y)
+    SlotsDue p w a b (n + 1) xs (pair_set ws n x y)
 slots_more p w a b n x y xs ws room S ex ey =
     record {
       first = λ i h. elim (dec_lt i n) [
-        | yes u ↦ other (2 * i) (omega arith) (omega arith) ∙ S.first i u
+        | yes u ↦ pair_other ws n x y (2 * i) (omega arith) (omega arith) ∙ S.first i u
         | no u ↦
             let q : i ≡ n = omega arith in
-            rw q (get_or-set_other (set ws (2 * n) x) (2 * n + 1) (2 * n) y 0 (omega arith) ∙ get_or-set_same ws (2 * n) x 0 (omega arith) ∙ ex)
+            rw q (pair_first ws n x y room ∙ ex)
       ];
       second = λ i h. elim (dec_lt i n) [
-        | yes u ↦ other (2 * i + 1) (omega arith) (omega arith) ∙ S.second i u
+        | yes u ↦ pair_other ws n x y (2 * i + 1) (omega arith) (omega arith) ∙ S.second i u
         | no u ↦
             let q : i ≡ n = omega arith in
-            rw q (get_or-set_same (set ws (2 * n) x) (2 * n + 1) y 0 (simp length-set room) ∙ ey)
+            rw q (pair_second ws n x y room ∙ ey)
       ];
     }
-  where
-    other : (k : ℕ) → k ≢ 2 * n → k ≢ 2 * n + 1 → coefficient (set (set ws (2 * n) x) (2 * n + 1) y) k ≡ coefficient ws k
-    other k h l = get_or-set_other (set ws (2 * n) x) (2 * n + 1) k y 0 l ∙ get_or-set_other ws (2 * n) k x 0 h
 
 module _ (neg w i : ℕ) (root : Same neg (w ^ (2 ^ 7)) neg) (unit : Same neg (i * 2 ^ 7) 1) (a b : ℕ) (xs : List ℕ) (G : Groups (suc neg) w 7 xs) where
   -- J's transform
@@ -100,14 +96,9 @@ module _ (neg w i : ℕ) (root : Same neg (w ^ (2 ^ 7)) neg) (unit : Same neg (i
         ⨾ same_add (same_mul_left a (ones_at k o h l)) (same_mul_left b (square_at k o h l))
         ⨾ same_sym (same_of (slot_at k o h l) ⨾ same_mod _)))
 
-pub transform_due_is : (B : Base) (i a b : ℕ) (xs numbers : List ℕ) → 0 < B.modulus →
-    Same (pred B.modulus) (B.root ^ (2 ^ 7)) (pred B.modulus) → Same (pred B.modulus) (i * 2 ^ 7) 1 →
-    Groups B.modulus B.root 7 xs → length numbers ≡ 256 → SlotsDue B.modulus B.root a b 128 xs numbers →
-    numbers ≡ transform_of B (witness B a b)
+pub transform_due_is : (p w i a b : ℕ) (xs numbers : List ℕ) → 0 < p → Same (pred p) (w ^ (2 ^ 7)) (pred p) → Same (pred p) (i * 2 ^ 7) 1 →
+    Groups p w 7 xs → length numbers ≡ 256 → SlotsDue p w a b 128 xs numbers →
+    let B : Base = record { modulus = p; root = w } in numbers ≡ transform_of B (witness B a b)
 unfolding transform_of witness
-transform_due_is B i a b xs numbers some root unit G size S = go B.modulus some root unit G S
-  where
-    go : (p : ℕ) → 0 < p → Same (pred p) (B.root ^ (2 ^ 7)) (pred p) → Same (pred p) (i * 2 ^ 7) 1 → Groups p B.root 7 xs → SlotsDue p B.root a b 128 xs numbers →
-        numbers ≡ transform_of (record { modulus = p; root = B.root }) (witness (record { modulus = p; root = B.root }) a b)
-    go zero h r u g s = absurd (omega arith)
-    go (suc neg) h r u g s = sym (transform_is neg B.root i r u a b xs g numbers size s)
+transform_due_is zero w i a b xs numbers some root unit G size S = absurd (omega arith)
+transform_due_is (suc neg) w i a b xs numbers some root unit G size S = sym (transform_is neg w i root unit a b xs G numbers size S)

@@ -4,6 +4,9 @@ ghost use Rattle.std.specs.Prelude.{◌≡◌, length};
 ghost use Rattle.guarded.specs.Model.{model};
 ghost use Rattle.histories.specs.Calls.{due};
 
+use crate::modulus::Modulus;
+use crate::natural::coefficients_due;
+use crate::transformed::transform_due;
 use guarded::GuardedRing;
 use histories::{Form, Register};
 
@@ -18,8 +21,9 @@ pub fn residues_due<G: GuardedRing>(ring: &G, register: Register, numbers: &mut 
     requires { length numbers.old ≡ 256 }
     ensures { numbers.new ≡ due (model G.GuardedRing ring.now) register }
 {
+    let modulus = Modulus::of(ring);
     match register.form {
-        Form::Transformed => transformed::transform_due(ring, register.a, register.b, numbers),
-        _ => natural::coefficients_due(ring, register.a, register.b, numbers),
+        Form::Transformed => transform_due(&modulus, register, numbers),
+        _ => coefficients_due(&modulus, register, numbers),
     }
 }

@@ -1,26 +1,34 @@
 ghost use Rattle.std.specs.Prelude.{◌≡◌, ◌+◌, ◌-◌, ◌*◌, ◌/◌, ◌%◌, ◌^◌, ◌<◌};
 
+use guarded::GuardedRing;
+use rings::Ring;
 use rings::reduction::reduce_wide;
 
 const BASE: u128 = 18446744073709551616;
 
-/// The check modulus p, with what spares the divisions by it.
+/// Numbers modulo the check modulus p of a ring, with what spares the divisions by p.
 #[derive(Drop)]
-pub(crate) struct Modulus {
-    p: u32,
+pub(crate) struct Modulus<'a, G: GuardedRing> {
+    ring: &'a G,
+    pub(crate) p: u32,
     // the whole part of 2^64 / p
     reciprocal: u64,
-    ghost some: { 1 < p },
+    ghost checks: { p ≡ G.check ring.now },
+    ghost above: { 3329 < p },
     ghost divides: { reciprocal ≡ (2 ^ 64) / p },
 }
 
-impl Modulus {
-    pub(crate) fn of(p: u32) -> Modulus
-        requires { 1 < p }
-        ensures { result.p ≡ p }
+impl<'a, G: GuardedRing> Modulus<'a, G> {
+    pub(crate) fn of(ring: &'a G) -> Modulus<'a, G>
+        ensures { result.ring.now ≡ ring.now }
     {
+        let p = ring.check_modulus();
         let reciprocal = (BASE / p as u128) as u64;
-        Modulus { p, reciprocal }
+        Modulus {
+            ring,
+            p,
+            reciprocal,
+        }
     }
 
     pub(crate) fn reduced(&self, x: u64) -> u32
@@ -48,5 +56,12 @@ impl Modulus {
         ensures { result ≡ (a + (self.now.p - b)) % self.now.p }
     {
         if a < b { a + (self.p - b) } else { a - b }
+    }
+
+    // The root to the power of e.
+    pub(crate) fn root_power(&self, e: u8) -> u32
+        ensures { result ≡ (G.root self.now.ring.now ^ e) % self.now.p }
+    {
+        self.ring.split(self.ring.power(e)).1
     }
 }

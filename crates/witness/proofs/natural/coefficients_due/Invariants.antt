@@ -4,7 +4,7 @@ use lib.ListN.{get_or}
 use Rattle.witness.proofs.Coefficients.{value}
 use Rattle.witness.proofs.natural.coefficients_due.Given as goal
 
-abbrev pub invariant-loop-k : goal.invariant-loop-k
-invariant-loop-k g l =
-    (l.x ≡ value (g.G.GuardedRing.check l.ring) l.a l.b l.k)
-    × ((j : ℕ) → j < l.k → get_or l.numbers j 0 ≡ value (g.G.GuardedRing.check l.ring) l.a l.b j)
+abbrev pub invariant-loop-number : goal.invariant-loop-number
+invariant-loop-number g l =
+    (l.x ≡ value l.modulus.p l.a l.b l.number-index)
+    × ((j : ℕ) → j < l.number-index → get_or l.numbers j 0 ≡ value l.modulus.p l.a l.b j)

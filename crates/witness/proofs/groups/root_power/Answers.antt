@@ -1,8 +1,0 @@
-use Prim.Native.Nat.{◌^◌}
-use Rattle.algebra.proofs.Remainders.{mean_guard}
-use Rattle.witness.proofs.groups.root_power.Goals as goal
-
-pub returns : goal.returns
-returns g c =
-    let s = c.args.ring.now in
-    rw (c.split.ensures.check, c.power.ensures.means, g.met.G.GuardedRing.joint s) (mean_guard (g.G.GuardedRing.check s) (g.G.Ring.root s ^ c.args.e))
