@@ -1,10 +1,10 @@
 -- The first flaw of a field, from what its reader has tested.
-use Rattle.std.proofs.Common.{◌≡◌, ℕ, ◌+◌, ◌<◌, ◌≤◌, true, false, cond, ◌&&◌, leb, ◌⊎◌, List, length, Some, None, Option, sym, ◌∙◌, inl, inr, arith}
+use Rattle.std.proofs.Common.{◌≡◌, ℕ, ◌+◌, ◌<◌, ◌≤◌, true, false, cond, List, length, Some, None, Option, sym, ◌∙◌, arith}
 use mathlib.Core.Option.{none, some}
-use Rattle.std.proofs.lemmas.Bool.{le-leb, lt-leb, cond-true, cond-false, and_left, and_right, and_from}
+use Rattle.std.proofs.lemmas.Bool.{le-leb, lt-leb, cond-true, cond-false}
 use Rattle.rings.specs.declared.refusal.Refusal.TheVariants.{Cut, Tag, Size, Long}
 use Rattle.sheet.specs.declared.kind.Kind.{Kind}
-use Rattle.sheet.specs.Kinds.{kind_of, placed, least, most}
+use Rattle.sheet.specs.Kinds.{kind_of, placed}
 use Rattle.sheet.specs.Flaws.{tag_at, size_at, after, stands, fits, flaw_at}
 
 pub long : (sheet : List ℕ) (at : ℕ) → 32768 < length sheet → flaw_at sheet at ≡ some Long
@@ -38,18 +38,9 @@ pub misplaced : (sheet : List ℕ) (at : ℕ) → length sheet ≤ 32768 → aft
 misplaced sheet at l i k e p = there sheet at l i (Some k) e ∙ cond-false (placed k at) _ _ (sym p)
 
 pub misfit : (sheet : List ℕ) (at : ℕ) → length sheet ≤ 32768 → after sheet at ≤ length sheet
-    → (k : Kind) → Some k ≡ kind_of (tag_at sheet at) → true ≡ placed k at
-    → (size_at sheet at < least k) ⊎ (most k < size_at sheet at) → flaw_at sheet at ≡ some (Size at)
-misfit sheet at l i k e p h =
-    there sheet at l i (Some k) e ∙ cond-true (placed k at) _ _ (sym p) ∙ cond-false (leb (least k) (size_at sheet at) && leb (size_at sheet at) (most k)) _ _ (out h)
-  where
-    out : (size_at sheet at < least k) ⊎ (most k < size_at sheet at) → (leb (least k) (size_at sheet at) && leb (size_at sheet at) (most k)) ≡ false
-    out (inl g) = and_left _ _ (lt-leb (least k) (size_at sheet at) g)
-    out (inr g) = and_right (leb (least k) (size_at sheet at)) _ (lt-leb (size_at sheet at) (most k) g)
+    → (k : Kind) → Some k ≡ kind_of (tag_at sheet at) → true ≡ placed k at → false ≡ fits (Some k) (size_at sheet at) → flaw_at sheet at ≡ some (Size at)
+misfit sheet at l i k e p f = there sheet at l i (Some k) e ∙ cond-true (placed k at) _ _ (sym p) ∙ cond-false (fits (Some k) (size_at sheet at)) _ _ (sym f)
 
 pub fitting : (sheet : List ℕ) (at : ℕ) → length sheet ≤ 32768 → after sheet at ≤ length sheet
-    → (k : Kind) → Some k ≡ kind_of (tag_at sheet at) → true ≡ placed k at
-    → least k ≤ size_at sheet at → size_at sheet at ≤ most k → flaw_at sheet at ≡ none
-fitting sheet at l i k e p g h =
-    there sheet at l i (Some k) e ∙ cond-true (placed k at) _ _ (sym p)
-    ∙ cond-true (leb (least k) (size_at sheet at) && leb (size_at sheet at) (most k)) _ _ (and_from _ _ (le-leb (least k) (size_at sheet at) g) (le-leb (size_at sheet at) (most k) h))
+    → (k : Kind) → Some k ≡ kind_of (tag_at sheet at) → true ≡ placed k at → true ≡ fits (Some k) (size_at sheet at) → flaw_at sheet at ≡ none
+fitting sheet at l i k e p f = there sheet at l i (Some k) e ∙ cond-true (placed k at) _ _ (sym p) ∙ cond-true (fits (Some k) (size_at sheet at)) _ _ (sym f)

@@ -1,13 +1,14 @@
 -- A field that is written in a sheet is the one that is read.
 use Rattle.std.proofs.Common.{◌≡◌, ℕ, ◌+◌, ◌/◌, ◌%◌, ◌<◌, ◌≤◌, List, get_or, drop, Some, sym, refl, ap, ◌∙◌, arith, get_or-drop, get_or-take}
 use mathlib.Core.Option.{none, some}
+use Rattle.std.proofs.lemmas.Bool.{le-leb, and_from}
 use Rattle.rings.specs.declared.refusal.Refusal.{Refusal}
 use Rattle.sheet.specs.declared.kind.Kind.{Kind}
 use Rattle.sheet.specs.declared.kind.Kind.TheVariants as is
 use Rattle.sheet.specs.declared.field.Field.{Field}
 use Rattle.sheet.specs.declared.field.Field.TheVariants.{Redundant, Pair, Load, LoadHat, Forward, Inverse, Add, Subtract, Multiply, Refresh, Clear, Release, Strike}
 use Rattle.sheet.specs.Bytes.{part}
-use Rattle.sheet.specs.Kinds.{letter, kind_of, least}
+use Rattle.sheet.specs.Kinds.{letter, kind_of, least, most}
 use Rattle.sheet.specs.Flaws.{tag_at, size_at, flaw_at}
 use Rattle.sheet.specs.Reads.{kind, mark, width, Reads}
 use Rattle.sheet.specs.Written.{written, WrittenAt}
@@ -48,13 +49,13 @@ named is.Strike = refl
 enough : (f : Field) → least (kind f) ≤ width f
 enough (Redundant p t) = omega arith
 enough (Pair p) = omega arith
-enough (Load r c xs bs) = omega arith
-enough (LoadHat r c xs bs) = omega arith
-enough (Forward r masks) = omega arith
-enough (Inverse r masks) = omega arith
-enough (Add d a b) = omega arith
-enough (Subtract d a b) = omega arith
-enough (Multiply d a b) = omega arith
+enough (Load l) = omega arith
+enough (LoadHat l) = omega arith
+enough (Forward l) = omega arith
+enough (Inverse l) = omega arith
+enough (Add o) = omega arith
+enough (Subtract o) = omega arith
+enough (Multiply o) = omega arith
 enough (Refresh r bs) = omega arith
 enough (Clear r) = omega arith
 enough (Release r) = omega arith
@@ -64,7 +65,7 @@ accepted : (sheet : List ℕ) (at : ℕ) (f : Field) → WrittenAt sheet at f �
 accepted sheet at f w =
     let size = size_of sheet at f w in
     fitting sheet at w.short (omega (arith, size, w.inside)) (kind f) (named (kind f) ∙ ap kind_of (sym (tag_of sheet at f w))) (sym w.stands)
-    (omega (arith, size, enough f)) (omega (arith, size, w.few))
+    (sym (and_from _ _ (le-leb (least (kind f)) (size_at sheet at) (omega (arith, size, enough f))) (le-leb (size_at sheet at) (most (kind f)) (omega (arith, size, w.few)))))
 
 pub never_refused : (sheet : List ℕ) (at : ℕ) (e : Refusal) → flaw_at sheet at ≡ some e → (f : Field) → WrittenAt sheet at f → ⊥
 never_refused sheet at e h f w = apart (flaw_at sheet at) e (accepted sheet at f w) h

@@ -1,30 +1,23 @@
-ghost use Rattle.std.specs.Prelude.{◌≡◌, ◌+◌, ◌*◌, ◌<◌, ◌≤◌, length, MatchBool, MatchOption, ◌≢◌};
-ghost use Rattle.sheet.specs.Bytes.{Part, two_at, four_at, Numbers};
+ghost use Rattle.std.specs.Prelude.{◌≡◌, ◌+◌, ◌*◌, ◌<◌, ◌≤◌, length, IfSome, IsSome, MatchOption, ◌↔◌};
+ghost use Rattle.sheet.specs.Bytes.{two_at, four_at, Numbers};
 
 use crate::limits::COEFFICIENTS;
-
-/// The n bytes from an offset on.
-pub(crate) fn cut(sheet: &[u8], from: usize, n: usize) -> &[u8]
-    requires { from + n ≤ length sheet.now }
-    ensures { Part sheet.now from n result.now }
-{
-    &sheet[from..from + n]
-}
+use std::array;
 
 /// The number of the two bytes at an offset.
-pub(crate) fn two(sheet: &[u8], at: usize) -> u16
-    requires { at + 1 < length sheet.now }
-    ensures { result ≡ two_at sheet.now at }
+pub(crate) fn two(bytes: &[u8], at: usize) -> u16
+    requires { at + 1 < length bytes.now }
+    ensures { result ≡ two_at bytes.now at }
 {
-    256 * sheet[at] as u16 + sheet[at + 1] as u16
+    u16::from_be_bytes([bytes[at], bytes[at + 1]])
 }
 
 /// The number of the four bytes at an offset.
-pub(crate) fn four(sheet: &[u8], at: usize) -> u32
-    requires { at + 3 < length sheet.now }
-    ensures { result ≡ four_at sheet.now at }
+pub(crate) fn four(bytes: &[u8], at: usize) -> u32
+    requires { at + 3 < length bytes.now }
+    ensures { result ≡ four_at bytes.now at }
 {
-    65536 * two(sheet, at) as u32 + two(sheet, at + 2) as u32
+    u32::from_be_bytes([bytes[at], bytes[at + 1], bytes[at + 2], bytes[at + 3]])
 }
 
 /// Coefficient k of a load's bytes, if they reach so far.
@@ -38,16 +31,13 @@ pub fn coefficient(bytes: &[u8], k: u8) -> Option<u16>
     Some(two(bytes, at))
 }
 
-/// Writes the 256 coefficients of a load's 512 bytes; of any other length none, and says so.
-pub fn read_coefficients(bytes: &[u8], out: &mut [u16; 256]) -> bool
-    ensures size { MatchBool result (length bytes.now ≡ 512) (length bytes.now ≢ 512) }
-    ensures written { MatchBool result (Numbers bytes.now out.new) (out.new ≡ out.old) }
+/// The 256 coefficients of a load's 512 bytes; none of bytes of any other length.
+pub fn read_coefficients(bytes: &[u8]) -> Option<[u16; 256]>
+    ensures size { IsSome result ↔ (length bytes.now ≡ 512) }
+    ensures written { IfSome result (Numbers bytes.now) }
 {
     if bytes.len() != COEFFICIENTS {
-        return false;
+        return None;
     }
-    for i in 0..256 {
-        out[i] = two(bytes, 2 * i);
-    }
-    true
+    Some(array::from_fn(|k| two(bytes, 2 * k)))
 }

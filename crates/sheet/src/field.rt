@@ -1,75 +1,33 @@
 ghost use Rattle.std.specs.Prelude.{◌≡◌};
 ghost use Rattle.sheet.specs.Reads.{mark};
 
+use crate::parts::{Layer, Load, Operands};
 use crate::tags;
 
 /// A field of a sheet; its longer parts stay in the sheet.
 #[derive(Clone, Copy)]
 pub enum Field<'a> {
     /// Opens the redundant ring.
-    Redundant {
-        p: u16,
-        t: u8,
-    },
+    Redundant { p: u16, t: u8 },
     /// Opens the pair ring.
-    Pair {
-        p: u16,
-    },
-    /// A polynomial: 512 bytes of coefficients, 256 redundancy bytes.
-    Load {
-        register: u8,
-        c: u16,
-        coefficients: &'a [u8],
-        bytes: &'a [u8],
-    },
-    /// A transform, as a load.
-    LoadHat {
-        register: u8,
-        c: u16,
-        coefficients: &'a [u8],
-        bytes: &'a [u8],
-    },
-    /// A layer of the transform, with 0 to 128 masks.
-    Forward {
-        register: u8,
-        masks: &'a [u8],
-    },
-    /// A layer of the inverse transform, with 0 to 128 masks.
-    Inverse {
-        register: u8,
-        masks: &'a [u8],
-    },
-    Add {
-        d: u8,
-        a: u8,
-        b: u8,
-    },
-    Subtract {
-        d: u8,
-        a: u8,
-        b: u8,
-    },
-    Multiply {
-        d: u8,
-        a: u8,
-        b: u8,
-    },
+    Pair { p: u16 },
+    /// A polynomial.
+    Load(Load<'a>),
+    /// A transform.
+    LoadHat(Load<'a>),
+    /// A layer of the transform.
+    Forward(Layer<'a>),
+    /// A layer of the inverse transform.
+    Inverse(Layer<'a>),
+    Add(Operands),
+    Subtract(Operands),
+    Multiply(Operands),
     /// 256 new redundancy bytes.
-    Refresh {
-        register: u8,
-        bytes: &'a [u8],
-    },
-    Clear {
-        register: u8,
-    },
-    Release {
-        register: u8,
-    },
+    Refresh { register: u8, bytes: &'a [u8] },
+    Clear { register: u8 },
+    Release { register: u8 },
     /// Writes over the word at a position; in the pair ring the upper half is the remainder by 3329, the lower the one by p.
-    Strike {
-        position: u16,
-        word: u32,
-    },
+    Strike { position: u16, word: u32 },
 }
 
 impl Field<'_> {
@@ -80,13 +38,13 @@ impl Field<'_> {
         match self {
             Field::Redundant { .. } => tags::REDUNDANT,
             Field::Pair { .. } => tags::PAIR,
-            Field::Load { .. } => tags::LOAD,
-            Field::LoadHat { .. } => tags::LOAD_HAT,
-            Field::Forward { .. } => tags::FORWARD,
-            Field::Inverse { .. } => tags::INVERSE,
-            Field::Add { .. } => tags::ADD,
-            Field::Subtract { .. } => tags::SUBTRACT,
-            Field::Multiply { .. } => tags::MULTIPLY,
+            Field::Load(_) => tags::LOAD,
+            Field::LoadHat(_) => tags::LOAD_HAT,
+            Field::Forward(_) => tags::FORWARD,
+            Field::Inverse(_) => tags::INVERSE,
+            Field::Add(_) => tags::ADD,
+            Field::Subtract(_) => tags::SUBTRACT,
+            Field::Multiply(_) => tags::MULTIPLY,
             Field::Refresh { .. } => tags::REFRESH,
             Field::Clear { .. } => tags::CLEAR,
             Field::Release { .. } => tags::RELEASE,

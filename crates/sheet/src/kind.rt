@@ -1,5 +1,6 @@
-ghost use Rattle.std.specs.Prelude.{◌≡◌, IfSome};
-ghost use Rattle.sheet.specs.Kinds.{letter as letter_of, kind_of, placed, least, most};
+ghost use Rattle.std.specs.Prelude.{◌≡◌, Some, IfSome};
+ghost use Rattle.sheet.specs.Kinds.{letter as letter_of, kind_of, placed};
+ghost use Rattle.sheet.specs.Flaws.{fits};
 
 use crate::limits::{COEFFICIENTS, MASKS, REDUNDANCY};
 use crate::tags;
@@ -56,19 +57,20 @@ impl Kind {
         }
     }
 
-    /// The least and the greatest length of its content.
-    pub fn sizes(self) -> (usize, usize)
-        ensures { (result.0 ≡ least self) × (result.1 ≡ most self) }
+    /// Whether its content may have a length.
+    pub fn takes(self, n: usize) -> bool
+        ensures { result ≡ fits (Some self) n }
     {
         let load = 1 + 2 + COEFFICIENTS + REDUNDANCY;
-        match self {
-            Kind::Redundant | Kind::Add | Kind::Subtract | Kind::Multiply => (3, 3),
-            Kind::Pair => (2, 2),
-            Kind::Load | Kind::LoadHat => (load, load),
-            Kind::Forward | Kind::Inverse => (1, 1 + MASKS),
-            Kind::Refresh => (1 + REDUNDANCY, 1 + REDUNDANCY),
-            Kind::Clear | Kind::Release => (1, 1),
-            Kind::Strike => (6, 6),
-        }
+        let lengths = match self {
+            Kind::Redundant | Kind::Add | Kind::Subtract | Kind::Multiply => 3..=3,
+            Kind::Pair => 2..=2,
+            Kind::Load | Kind::LoadHat => load..=load,
+            Kind::Forward | Kind::Inverse => 1..=1 + MASKS,
+            Kind::Refresh => 1 + REDUNDANCY..=1 + REDUNDANCY,
+            Kind::Clear | Kind::Release => 1..=1,
+            Kind::Strike => 6..=6,
+        };
+        lengths.contains(&n)
     }
 }

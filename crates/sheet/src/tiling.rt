@@ -3,22 +3,42 @@ ghost use Rattle.sheet.specs.Tiles.{Tiled, Covers, OneTiling};
 use crate::fields::Fields;
 use rings::Refusal;
 
-/// How many fields a sheet has from its start, and the refusal that ends them, if one does.
-pub fn survey(sheet: &[u8]) -> (u16, Option<Refusal>)
-    ensures tiled { Tiled sheet.now result.0 result.1 }
-    ensures covers { Covers sheet.now result.0 result.1 }
+/// How far the fields of a sheet go: how many it has from its start, and the refusal that ends them, if one does.
+#[derive(Clone, Copy)]
+pub struct Extent {
+    pub fields: u16,
+    pub refusal: Option<Refusal>,
+}
+
+/// How far the fields of a sheet go.
+pub fn survey(sheet: &[u8]) -> Extent
+    ensures tiled { Tiled sheet.now result.fields result.refusal }
+    ensures covers { Covers sheet.now result.fields result.refusal }
     ensures one { OneTiling sheet.now }
 {
-    let mut fields = match Fields::new(sheet) {
-        Ok(fields) => fields,
-        Err(refusal) => return (0, Some(refusal)),
+    let mut reader = match Fields::new(sheet) {
+        Ok(reader) => reader,
+        Err(refusal) => {
+            return Extent {
+                fields: 0,
+                refusal: Some(refusal),
+            };
+        }
     };
-    let mut n = 0;
-    while let Some(step) = fields.next() {
+    let mut fields = 0;
+    while let Some(step) = reader.next() {
         match step {
-            Ok(_) => n += 1,
-            Err(refusal) => return (n, Some(refusal)),
+            Ok(_) => fields += 1,
+            Err(refusal) => {
+                return Extent {
+                    fields,
+                    refusal: Some(refusal),
+                };
+            }
         }
     }
-    (n, None)
+    Extent {
+        fields,
+        refusal: None,
+    }
 }

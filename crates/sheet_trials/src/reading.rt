@@ -75,28 +75,17 @@ fn a_load_borrows_its_bytes(rt: HostRuntime) -> Result<(), Fail> {
     sheet[521] = 12;
     sheet[522] = 255;
     sheet[778] = 9;
-    let Ok(
-        (
-            Field::LoadHat {
-                register,
-                c,
-                coefficients,
-                bytes,
-            },
-            next,
-        ),
-    ) = read_field(&sheet, 5)
-    else {
+    let Ok((Field::LoadHat(load), next)) = read_field(&sheet, 5) else {
         return Err(Fail::new("no transform is read"));
     };
-    assert_eq!(rt; register, 5);
-    assert_eq!(rt; c, 0x0707);
-    assert_eq!(rt; coefficients.len(), 512);
-    assert_eq!(rt; coefficient(coefficients, 0), Some(0x0102));
-    assert_eq!(rt; coefficient(coefficients, 255), Some(0x0CFF));
-    assert_eq!(rt; bytes.len(), 256);
-    assert_eq!(rt; bytes[0], 7);
-    assert_eq!(rt; bytes[255], 9);
+    assert_eq!(rt; load.register, 5);
+    assert_eq!(rt; load.c, 0x0707);
+    assert_eq!(rt; load.coefficients.len(), 512);
+    assert_eq!(rt; coefficient(load.coefficients, 0), Some(0x0102));
+    assert_eq!(rt; coefficient(load.coefficients, 255), Some(0x0CFF));
+    assert_eq!(rt; load.bytes.len(), 256);
+    assert_eq!(rt; load.bytes[0], 7);
+    assert_eq!(rt; load.bytes[255], 9);
     assert_eq!(rt; next, 779);
     Ok(())
 }

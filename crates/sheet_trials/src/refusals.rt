@@ -2,10 +2,7 @@ use rings::Refusal;
 use sheet::read_field;
 
 fn refusal(sheet: &[u8], at: u16) -> Option<Refusal> {
-    match read_field(sheet, at) {
-        Ok(_) => None,
-        Err(refusal) => Some(refusal),
-    }
+    read_field(sheet, at).err()
 }
 
 #[test]

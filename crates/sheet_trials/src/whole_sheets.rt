@@ -1,11 +1,11 @@
 use rings::Refusal;
-use sheet::survey;
+use sheet::{Extent, survey};
 use std::test::Fail;
 
 #[test]
 fn a_sheet_of_three_fields(rt: HostRuntime) {
     let sheet = [b'P', 0, 3, 30, 1, 1, b'R', 0, 1, 0, b'C', 0, 1, 9];
-    let (fields, refusal) = survey(&sheet);
+    let Extent { fields, refusal } = survey(&sheet);
     assert_eq!(rt; fields, 3);
     assert_eq!(rt; refusal, None);
 }
@@ -13,11 +13,11 @@ fn a_sheet_of_three_fields(rt: HostRuntime) {
 #[test]
 fn the_first_refusal_ends_a_sheet(rt: HostRuntime) {
     let sheet = [b'Q', 0, 2, 30, 1, b'C', 0, 1, 9, b'P', 0, 3, 30, 1, 1];
-    let (fields, refusal) = survey(&sheet);
+    let Extent { fields, refusal } = survey(&sheet);
     assert_eq!(rt; fields, 2);
     assert_eq!(rt; refusal, Some(Refusal::Tag(9)));
-    let (none, refusal) = survey(&[]);
-    assert_eq!(rt; none, 0);
+    let Extent { fields, refusal } = survey(&[]);
+    assert_eq!(rt; fields, 0);
     assert_eq!(rt; refusal, Some(Refusal::Cut(0)));
 }
 
@@ -29,11 +29,10 @@ fn a_sheet_of_32768_bytes(rt: HostRuntime) -> Result<(), Fail> {
     sheet[2] = 2;
     sheet[5] = b'F';
     sheet[7] = 4;
-    for i in 0..8189 {
-        sheet[4 * i + 12] = b'C';
-        sheet[4 * i + 14] = 1;
+    for field in sheet[12..].chunks_exact_mut(4) {
+        field.copy_from_slice(&[b'C', 0, 1, 0]);
     }
-    let (fields, refusal) = survey(&sheet);
+    let Extent { fields, refusal } = survey(&sheet);
     assert_eq!(rt; fields, 8191);
     assert_eq!(rt; refusal, None);
     Ok(())
@@ -42,7 +41,7 @@ fn a_sheet_of_32768_bytes(rt: HostRuntime) -> Result<(), Fail> {
 #[test]
 fn a_sheet_of_32769_bytes(rt: HostRuntime) {
     let sheet = [0; 32769];
-    let (fields, refusal) = survey(&sheet);
+    let Extent { fields, refusal } = survey(&sheet);
     assert_eq!(rt; fields, 0);
     assert_eq!(rt; refusal, Some(Refusal::Long));
     assert_eq!(rt; Refusal::Long.number(), 13);

@@ -1,10 +1,15 @@
-use Rattle.std.proofs.Common.{◌<◌, ◌≢◌, length, arith, length-set, get_or-set_other, get_or-set_same, below_more}
+use Rattle.std.proofs.Common.{◌≡◌, ◌*◌, refl, ap, ◌∙◌, arith, rules}
+use Rattle.sheet.specs.Bytes.{two_at}
+use Rattle.sheet.proofs.Made.{each}
 use Rattle.sheet.proofs.bytes.read_coefficients.Goals as goal
 
-pub loop-i-preserved : goal.loop-i-preserved
-loop-i-preserved c = (
-  simp length-set c.loop-i.invariant.0,
-  below_more _ _
-      (λ k h. let ne : k ≢ c.loop-i.i = omega arith in rw get_or-set_other (c.loop-i.invariant.1 k h))
-      (let lt : c.loop-i.i < length c.loop-i.out = omega (arith, c.loop-i.invariant.0) in rw get_or-set_same c.two.ensures),
-)
+pub returns-clause-written : goal.returns-clause-written
+returns-clause-written c =
+    let bytes = c.args.bytes.now in
+    let made = c.from_fn.ensures.items in
+    record {
+      size = made.long;
+      each = λ k h. each _ (λ p. p.0.now ≡ bytes) (λ i x. x ≡ two_at bytes (2 * i))
+          (λ p q i y e s. let m = s.met in let r : y ≡ two_at p.0.now (2 * i) = search rules in (ap (λ b. b.now) m.1 ∙ e, r ∙ ap (λ xs. two_at xs (2 * i)) e))
+          _ c.from_fn.result 0 0 256 k refl made.each (omega arith) h;
+    }

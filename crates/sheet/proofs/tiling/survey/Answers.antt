@@ -19,26 +19,26 @@ loop-step-init c =
 pub loop-step-preserved : goal.loop-step-preserved
 loop-step-preserved c =
     let sheet = c.args.sheet.now in
-    let fields = c.loop-step.fields in
+    let fields = c.loop-step.reader in
     let next = c.next.new.self.at in
     let read = c.in-Ok-step.field-0 in
     let step = subst (λ x. Next x fields.at (Some (Ok read)) next) c.loop-step.invariant.0 (rw c.in-Ok-step.is at c.in-Some.ensures.step) in
-    (rw c.next.ensures.sheet c.loop-step.invariant.0, a_field_on sheet (λ i. (c.type_inv.sheet i).fits) c.loop-step.n fields.at next read.field c.loop-step.invariant.1 step.1 step.3, c.loop-step.invariant.2)
+    (rw c.next.ensures.sheet c.loop-step.invariant.0, a_field_on sheet (λ i. (c.type_inv.sheet i).fits) c.loop-step.fields fields.at next read.field c.loop-step.invariant.1 step.1 step.3, c.loop-step.invariant.2)
 
 pub returns-in-Err-step : goal.returns-in-Err-step
 returns-in-Err-step c =
     let sheet = c.args.sheet.now in
-    let at = c.loop-step.fields.at in
+    let at = c.loop-step.reader.at in
     let e = c.in-Err-step.refusal in
     let step = subst (λ x. Next x at (Some (Err e)) c.next.new.self.at) c.loop-step.invariant.0 (rw c.in-Err-step.is at c.in-Some.ensures.step) in
     let within = c.loop-step.invariant.1.within in
-    let h = stopped sheet c.loop-step.n at e c.loop-step.invariant.1 (inr (omega (arith, within, step.0))) step.1 in
+    let h = stopped sheet c.loop-step.fields at e c.loop-step.invariant.1 (inr (omega (arith, within, step.0))) step.1 in
     record { tiled = h.0; covers = h.1; one = one_tiling sheet }
 
 pub returns : goal.returns
 returns c =
     let sheet = c.args.sheet.now in
-    let at = c.loop-step.fields.at in
+    let at = c.loop-step.reader.at in
     let step = subst (λ x. Next x at None c.next.new.self.at) c.loop-step.invariant.0 c.in_default.ensures.step in
-    let h = whole sheet c.loop-step.n at c.loop-step.invariant.2 c.loop-step.invariant.1 step.0 in
+    let h = whole sheet c.loop-step.fields at c.loop-step.invariant.2 c.loop-step.invariant.1 step.0 in
     record { tiled = h.0; covers = h.1; one = one_tiling sheet }
