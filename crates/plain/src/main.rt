@@ -1,35 +1,30 @@
 #![tactic(auto)]
 
 mod calls;
+mod unserved;
 
-use calls::{Reply, serve};
+use calls::serve;
 use std::io;
+use unserved::Unserved;
 
-// Prints the answer of one call.
-fn print_reply(rt: &HostRuntime, reply: Reply, out: &[u16; 256]) -> io::Result<()> {
-    match reply {
-        Reply::Done => {
-            print!(rt; "ok")?;
-            for number in out {
-                print!(rt; " {number}")?;
-            }
-            println!(rt; "")
-        }
-        Reply::Refused(refusal) => {
-            let number = refusal.number();
-            let place = refusal.place();
-            println!(rt; "refused {number} {place}")
-        }
-        Reply::Unreadable => println!(rt; "unreadable"),
+// Prints the numbers of an accepted call.
+fn print_numbers(rt: &HostRuntime, out: &[u16; 256]) -> io::Result<()> {
+    print!(rt; "ok")?;
+    for number in out {
+        print!(rt; " {number}")?;
     }
+    println!(rt; "")
 }
 
 fn run(rt: &HostRuntime) -> anyhow::Result<()> {
     let text = io::read_to_string(rt.alloc(), rt.stdin())?;
     let mut out = [0u16; 256];
     for line in text.as_str().lines() {
-        let reply = serve(rt.alloc(), line, &mut out)?;
-        print_reply(rt, reply, &out)?;
+        match serve(rt.alloc(), line, &mut out) {
+            Ok(()) => print_numbers(rt, &out)?,
+            Err(Unserved::OutOfMemory(e)) => return Err(e.into()),
+            Err(unserved) => println!(rt; "{unserved}")?,
+        }
     }
     Ok(())
 }

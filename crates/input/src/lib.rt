@@ -1,0 +1,7 @@
+//! What the programs read of their input.
+
+#![tactic(auto)]
+
+mod reading;
+
+pub use reading::{ReadError, numbers};
