@@ -1,5 +1,6 @@
 pub mod Model
 pub mod Moduli
+pub mod CheckModulus
 pub mod RedundantRing
 pub mod PairRing
 pub mod PairLawful

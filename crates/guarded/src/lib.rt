@@ -1,5 +1,6 @@
 #![tactic(auto)]
 
+mod check;
 pub mod pair;
 pub mod redundant;
 pub mod ring;

@@ -1,5 +1,8 @@
 ghost use Rattle.std.specs.Prelude.{◌≡◌, ◌/◌, ◌%◌, ◌^◌, ◌<◌};
 
+// Two widths, u32 over u64 and u64 over u128. One function for both would need a trait of widths, with a law for its product, shift and
+// narrowing and an impl for each, for two uses: no plainer than these four lines twice.
+
 /// The remainder of x by m, without a division: r is the whole part of 2^32 / m.
 pub fn reduce(x: u32, m: u32, r: u32) -> u32
     requires some { 0 < m }

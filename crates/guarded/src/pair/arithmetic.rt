@@ -7,6 +7,7 @@ ghost use Rattle.std.proofs.Common.{rules};
 ghost use Rattle.guarded.specs.PairLawful.{pair_lawful};
 
 use super::{Pair, Residues};
+use crate::check::CheckModulus;
 use crate::ring::GuardedRing;
 use rings::{Plain, Refusal, Ring};
 
@@ -16,11 +17,9 @@ impl Pair {
         ensures answers { answer result ≡ ruling (checked (is_check p) Modulus ∷ []) }
         ensures made { IfOk result (λ ring. pair_check ring ≡ p) }
     {
-        if p != 7681 && p != 12289 {
-            return Err(Refusal::Modulus);
-        }
+        let check = CheckModulus::try_from(p)?;
         let coefficients = Plain::approve(3329)?;
-        let checks = Plain::approve(p as u16)?;
+        let checks = Plain::approve(check.p as u16)?;
         Ok(Pair {
             coefficients,
             checks,

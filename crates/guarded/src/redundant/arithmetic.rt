@@ -4,38 +4,34 @@ ghost use Rattle.rings.specs.Refusals.{answer, ruling, test as checked};
 ghost use Rattle.guarded.specs.Moduli.{is_check, is_redundancy, most_redundancy};
 ghost use Rattle.guarded.specs.RedundantRing.{redundant_check, redundant_redundancy, redundant_modulus, redundant_words, redundant_root, redundant_element, redundant_meaning, redundant_number};
 ghost use Rattle.std.proofs.Common.{rules};
+ghost use Rattle.guarded.specs.ModuliLemmas.{known_turned};
 ghost use Rattle.guarded.specs.RedundantLawful.{redundant_lawful};
 
 use super::Redundant;
+use crate::check::CheckModulus;
 use crate::ring::GuardedRing;
 use rings::reduction::reduce_wide;
 use rings::{Refusal, Ring};
 
 const BASE: u128 = 18446744073709551616;
 
-// The ring of an approved p and t, with the inverses that go with p.
-fn made(p: u32, t: u8, inverse: u32, scale: u32) -> Redundant
-    requires known { is_check p ≡ true }
+// The ring of a check modulus and an approved t.
+fn made(check: CheckModulus, t: u8) -> Redundant
     requires some { 1 ≤ t }
-    requires most { t ≤ most_redundancy p }
-    requires inverts { (3329 * inverse) % p ≡ 1 }
-    requires scales { (128 * scale) % (3329 * p) ≡ 1 }
-    requires low { scale < 3329 * p }
-    ensures { (result.p ≡ p) × (result.t ≡ t) }
+    requires most { t ≤ most_redundancy check.p }
+    ensures { (result.check ≡ check) × (result.t ≡ t) }
 {
-    let n = 3329 * p;
+    let n = 3329 * check.p;
     let m = n * t as u32;
     let reciprocal = (BASE / m as u128) as u64;
-    let check_reciprocal = (BASE / p as u128) as u64;
+    let check_reciprocal = (BASE / check.p as u128) as u64;
     Redundant {
-        p,
+        check,
         t,
         n,
         m,
         reciprocal,
         check_reciprocal,
-        inverse,
-        scale,
     }
 }
 
@@ -45,23 +41,17 @@ impl Redundant {
         ensures answers { answer result ≡ ruling (checked (is_check p) Modulus ∷ checked (is_redundancy p t) Redundancy ∷ []) }
         ensures made { IfOk result (λ ring. (redundant_check ring ≡ p) × (redundant_redundancy ring ≡ t)) }
     {
-        if p == 7681 {
-            if t % 2 == 0 || t > 167 {
-                return Err(Refusal::Redundancy);
-            }
-            Ok(made(7681, t, 4520, 25370283))
-        } else if p == 12289 {
-            if t % 2 == 0 || t > 103 {
-                return Err(Refusal::Redundancy);
-            }
-            Ok(made(12289, t, 8077, 40590471))
-        } else {
-            Err(Refusal::Modulus)
+        let check = CheckModulus::try_from(p)?;
+        if t % 2 == 0 || t > check.most {
+            return Err(Refusal::Redundancy);
         }
+        Ok(made(check, t))
     }
 }
 
 // Each operation reduces by the number of words, 3329 p t, and never by 3329 p: the redundancy of the operands goes into the result.
+// The clause `word` of sum, difference and product says so. The trait's clauses stand beside it, since a method's own clauses take the
+// place of the trait's, and the prover does not derive those from `word` by itself.
 impl Ring for Redundant {
     type Word = u32;
 
@@ -75,7 +65,7 @@ impl Ring for Redundant {
 
     ghost odd = { Prim.search rules };
 
-    ghost halfway = { Prim.search rules };
+    ghost halfway = { λ s. known_turned s.check.p s.check.known };
 
     ghost below = { Prim.search rules };
 
@@ -111,15 +101,11 @@ impl Ring for Redundant {
     }
 
     fn power(&self, e: u8) -> u32 {
-        if self.p == 7681 {
-            roots::joint_7681(e)
-        } else {
-            roots::joint_12289(e)
-        }
+        self.check.powers[e as usize]
     }
 
     fn inverse(&self) -> u32 {
-        self.scale
+        self.check.scale
     }
 
     fn zero(&self) -> u32 {
@@ -140,10 +126,10 @@ impl GuardedRing for Redundant {
 
     ghost joint = { Prim.search rules };
 
-    ghost lawful = { λ s. redundant_lawful s.p s.t s.known s.some s.most };
+    ghost lawful = { λ s. redundant_lawful s.check.p s.t s.check.known s.some s.most };
 
     fn check_modulus(&self) -> u32 {
-        self.p
+        self.check.p
     }
 
     fn redundancy_number(&self) -> u8 {
@@ -151,10 +137,10 @@ impl GuardedRing for Redundant {
     }
 
     fn lift(&self, s: u16, c: u32, k: u8) -> u32 {
-        let gap = c + (self.p - s as u32);
+        let gap = c + (self.check.p - s as u32);
         let part = reduce_wide(
-            gap as u64 * self.inverse as u64,
-            self.p as u64,
+            gap as u64 * self.check.inverse as u64,
+            self.check.p as u64,
             self.check_reciprocal,
         );
         s as u32 + 3329 * part + self.n * k as u32
@@ -163,7 +149,7 @@ impl GuardedRing for Redundant {
     fn split(&self, w: u32) -> (u16, u32) {
         (
             (w % 3329) as u16,
-            reduce_wide(w as u64, self.p as u64, self.check_reciprocal),
+            reduce_wide(w as u64, self.check.p as u64, self.check_reciprocal),
         )
     }
 }

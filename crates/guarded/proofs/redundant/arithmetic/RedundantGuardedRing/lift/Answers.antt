@@ -8,26 +8,26 @@ use Rattle.guarded.proofs.redundant.arithmetic.RedundantGuardedRing.lift.Goals a
 pub overflow_add-result-2 : goal.overflow_add-result-2
 overflow_add-result-2 c =
     let s = c.args.self.now in
-    let above : 3329 < s.p = known_above s.p s.known in
-    let x : ℕ = joined 3329 s.p s.inverse c.args.s c.args.c in
-    let low : x < 3329 * s.p = joined_below 3329 s.p s.inverse c.args.s c.args.c c.requires.coefficient (omega arith) in
-    let is : (c.args.s + 3329 * c.reduce_wide-part.result) + s.n * c.args.k ≡ x + 3329 * s.p * c.args.k =
+    let above : 3329 < s.check.p = known_above s.check.p s.check.known in
+    let x : ℕ = joined 3329 s.check.p s.check.inverse c.args.s c.args.c in
+    let low : x < 3329 * s.check.p = joined_below 3329 s.check.p s.check.inverse c.args.s c.args.c c.requires.coefficient (omega arith) in
+    let is : (c.args.s + 3329 * c.reduce_wide-part.result) + s.n * c.args.k ≡ x + 3329 * s.check.p * c.args.k =
     ap (λ (y : ℕ). (c.args.s + 3329 * y) + s.n * c.args.k) c.reduce_wide-part.ensures ∙ ap (λ (y : ℕ). x + y * c.args.k) s.joint in
-    omega (arith, word_below (3329 * s.p) s.t x c.args.k low c.requires.number, s.fits)
+    omega (arith, word_below (3329 * s.check.p) s.t x c.args.k low c.requires.number, s.fits)
 
 pub returns : goal.returns
 returns c =
     let s = c.args.self.now in
-    let above : 3329 < s.p = known_above s.p s.known in
-    let x : ℕ = joined 3329 s.p s.inverse c.args.s c.args.c in
-    let low : x < 3329 * s.p = joined_below 3329 s.p s.inverse c.args.s c.args.c c.requires.coefficient (omega arith) in
-    let is : (c.args.s + 3329 * c.reduce_wide-part.result) + s.n * c.args.k ≡ x + 3329 * s.p * c.args.k =
+    let above : 3329 < s.check.p = known_above s.check.p s.check.known in
+    let x : ℕ = joined 3329 s.check.p s.check.inverse c.args.s c.args.c in
+    let low : x < 3329 * s.check.p = joined_below 3329 s.check.p s.check.inverse c.args.s c.args.c c.requires.coefficient (omega arith) in
+    let is : (c.args.s + 3329 * c.reduce_wide-part.result) + s.n * c.args.k ≡ x + 3329 * s.check.p * c.args.k =
     ap (λ (y : ℕ). (c.args.s + 3329 * y) + s.n * c.args.k) c.reduce_wide-part.ensures ∙ ap (λ (y : ℕ). x + y * c.args.k) s.joint in
-    let means : ((c.args.s + 3329 * c.reduce_wide-part.result) + s.n * c.args.k) % (3329 * s.p) ≡ x =
-    ap (λ (y : ℕ). y % (3329 * s.p)) is ∙ word_mod (3329 * s.p) s.t x c.args.k low in
+    let means : ((c.args.s + 3329 * c.reduce_wide-part.result) + s.n * c.args.k) % (3329 * s.check.p) ≡ x =
+    ap (λ (y : ℕ). y % (3329 * s.check.p)) is ∙ word_mod (3329 * s.check.p) s.t x c.args.k low in
     record {
-      element = lt-ltb _ _ (rw is (word_below (3329 * s.p) s.t x c.args.k low c.requires.number));
-      coefficient = ap (λ (y : ℕ). y % 3329) means ∙ joined_plain 3329 s.p s.inverse c.args.s c.args.c c.requires.coefficient;
-      check = ap (λ (y : ℕ). y % s.p) means ∙ joined_guard 3329 s.p s.inverse c.args.s c.args.c (omega arith) (omega (arith, c.requires.coefficient)) c.requires.check s.inverts;
-      number = ap (λ (y : ℕ). y / (3329 * s.p)) is ∙ word_div (3329 * s.p) s.t x c.args.k low;
+      element = lt-ltb _ _ (rw is (word_below (3329 * s.check.p) s.t x c.args.k low c.requires.number));
+      coefficient = ap (λ (y : ℕ). y % 3329) means ∙ joined_plain 3329 s.check.p s.check.inverse c.args.s c.args.c c.requires.coefficient;
+      check = ap (λ (y : ℕ). y % s.check.p) means ∙ joined_guard 3329 s.check.p s.check.inverse c.args.s c.args.c (omega arith) (omega (arith, c.requires.coefficient)) c.requires.check s.check.inverts;
+      number = ap (λ (y : ℕ). y / (3329 * s.check.p)) is ∙ word_div (3329 * s.check.p) s.t x c.args.k low;
     }

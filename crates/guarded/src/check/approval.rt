@@ -1,0 +1,30 @@
+ghost use Rattle.guarded.specs.CheckModulus.{Approves};
+
+use super::CheckModulus;
+use rings::Refusal;
+
+impl TryFrom<u32> for CheckModulus {
+    type Error = Refusal;
+
+    ghost try_from_gives = { Approves };
+
+    fn try_from(p: u32) -> Result<CheckModulus, Refusal> {
+        match p {
+            7681 => Ok(CheckModulus {
+                p,
+                most: 167,
+                inverse: 4520,
+                scale: 25370283,
+                powers: roots::joint_7681(),
+            }),
+            12289 => Ok(CheckModulus {
+                p,
+                most: 103,
+                inverse: 8077,
+                scale: 40590471,
+                powers: roots::joint_12289(),
+            }),
+            _ => Err(Refusal::Modulus),
+        }
+    }
+}
