@@ -8,7 +8,7 @@ use Rattle.algebra.specs.Masks.{suits, mask_after, Holds, ForwardLayer, InverseL
 use Rattle.algebra.proofs.Modular.{same_by}
 use Rattle.algebra.proofs.MaskLists.{forward_step_listed}
 use Rattle.engine.specs.Rows.{held, GroupWritten, LayerWritten}
-use Rattle.engine.specs.Pairs.{forward_pair, inverse_pair, forward_pairs, inverse_pairs}
+use Rattle.engine.specs.Pairs.{forward_pairs, inverse_pairs}
 use Rattle.engine.specs.Steps.{WentForward}
 use Rattle.engine.proofs.Numbers.{forward_under, inverse_under, with_factor}
 use Rattle.engine.proofs.Rows.{past, layer_more}
@@ -34,26 +34,13 @@ pub half_turn : (m x : ℕ) → (x + 1) % m ≡ 0 → Same (pred m) x (pred m)
 half_turn zero x e = absurd (omega (arith, mod-zero (x + 1)))
 half_turn (suc neg) x e = same_by 1 ((x + 1) / suc neg) (omega (arith, div-add-mod (x + 1) (suc neg), e))
 
--- one group more
-module _ {W : Type 0} (element : W → Bool) (f : W → ℕ) (neg w s len : ℕ) (before list before' list' : List ℕ) (eb : before' ≡ before) (el : list' ≡ list)
-    (n z : ℕ) (ws ws₁ ws₂ : List W) where
-  pub forward_next : z ≡ forward_exponent 7 s n → LayerWritten element f len n (forward_pairs neg w s len before list) ws ws₁ →
-      GroupWritten element f (n * (2 * len)) len len (forward_pair neg w z len n before' list') ws₁ ws₂ →
-      LayerWritten element f len (n + 1) (forward_pairs neg w s len before list) ws ws₂
-  forward_next ez l u =
-      layer_more element f len n (forward_pairs neg w s len before list) ws ws₁ ws₂ l
-      (subst (λ (y : ℕ). GroupWritten element f (n * (2 * len)) len len (forward_pair neg w y len n before list) ws₁ ws₂) ez
-      (subst (λ (ms : List ℕ). GroupWritten element f (n * (2 * len)) len len (forward_pair neg w z len n ms list) ws₁ ws₂) eb
-      (subst (λ (ms : List ℕ). GroupWritten element f (n * (2 * len)) len len (forward_pair neg w z len n before' ms) ws₁ ws₂) el u)))
-
-  pub inverse_next : z ≡ inverse_exponent 7 s n → LayerWritten element f len n (inverse_pairs neg w s len before list) ws ws₁ →
-      GroupWritten element f (n * (2 * len)) len len (inverse_pair neg w z len n before' list') ws₁ ws₂ →
-      LayerWritten element f len (n + 1) (inverse_pairs neg w s len before list) ws ws₂
-  inverse_next ez l u =
-      layer_more element f len n (inverse_pairs neg w s len before list) ws ws₁ ws₂ l
-      (subst (λ (y : ℕ). GroupWritten element f (n * (2 * len)) len len (inverse_pair neg w y len n before list) ws₁ ws₂) ez
-      (subst (λ (ms : List ℕ). GroupWritten element f (n * (2 * len)) len len (inverse_pair neg w z len n ms list) ws₁ ws₂) eb
-      (subst (λ (ms : List ℕ). GroupWritten element f (n * (2 * len)) len len (inverse_pair neg w z len n before' ms) ws₁ ws₂) el u)))
+-- one group more, under the layer's lists
+pub next_group : {W : Type 0} (element : W → Bool) (f : W → ℕ) (pair : (z len g : ℕ) (before list : List ℕ) → ℕ → ℕ → ℕ → ℕ → ℕ → Type 0) (exponent : ℕ → ℕ)
+    (len n : ℕ) (before list : List ℕ) (ws ws₁ ws₂ : List W) (index half z : ℕ) (came goes : List ℕ) →
+    index ≡ n → half ≡ len → z ≡ exponent n → came ≡ before → goes ≡ list → LayerWritten element f len n (λ g. pair (exponent g) len g before list) ws ws₁ →
+    GroupWritten element f (index * (2 * half)) half half (pair z half index came goes) ws₁ ws₂ → LayerWritten element f len (n + 1) (λ g. pair (exponent g) len g before list) ws ws₂
+next_group element f pair exponent len n before list ws ws₁ ws₂ index half z came goes ei eh ez ec eg l u =
+    layer_more element f len n (λ g. pair (exponent g) len g before list) ws ws₁ ws₂ l (rw (ei, eh, ez, ec, eg) at u)
 
 -- a layer that is not the last has the factor 1
 no_factor : (b : Bool) → ◌≡◌ {A = ℕ} (cond b 1 1) 1
@@ -91,13 +78,13 @@ module _ {W : Type 0} (element : W → Bool) (f : W → ℕ) (neg w t : ℕ) (lo
   }
 
 -- by the layer's number s, from 1 to 7
-module _ {W : Type 0} (element : W → Bool) (f : W → ℕ) (m w : ℕ) (turn : (w ^ 128 + 1) % m ≡ 0) (before list : List ℕ) (n len : ℕ) (ws ws' : List W) where
-  pub went_forward : (s : ℕ) → 1 ≤ s → s ≤ 7 → suits 7 (s - 1) before ≡ true → suits 7 s list ≡ true → len ≡ forward_len s → n ≡ forward_groups s →
-      LayerWritten element f len n (forward_pairs (pred m) w s len before list) ws ws' → WentForward (pred m) w s before list (held f ws) (held f ws')
-  went_forward zero h k came goes el en l = absurd (omega arith)
-  went_forward (suc t) h k came goes el en l =
+module _ {W : Type 0} (element : W → Bool) (f : W → ℕ) (m w : ℕ) (turn : (w ^ 128 + 1) % m ≡ 0) (before list : List ℕ) (n : ℕ) (ws ws' : List W) where
+  pub went_forward : (s : ℕ) → 1 ≤ s → s ≤ 7 → suits 7 (s - 1) before ≡ true → suits 7 s list ≡ true → n ≡ forward_groups s →
+      LayerWritten element f (forward_len s) n (forward_pairs (pred m) w s (forward_len s) before list) ws ws' → WentForward (pred m) w s before list (held f ws) (held f ws')
+  went_forward zero h k came goes en l = absurd (omega arith)
+  went_forward (suc t) h k came goes en l =
       let e : suc t - 1 ≡ t = omega arith in
-      let layer = forward_whole element f (pred m) w t k before list (rw e at came) goes ws ws' (rw (el, en) at l) in
+      let layer = forward_whole element f (pred m) w t k before list (rw e at came) goes ws ws' (rw en at l) in
       record {
         layer = subst (λ (q : ℕ). ForwardLayer 7 (pred m) w (suc t) (mask_after 7 Forward q before) (mask_after 7 Forward (suc t) list) (held f ws) (held f ws')) (sym e) layer;
         step = λ g holds.
@@ -105,14 +92,14 @@ module _ {W : Type 0} (element : W → Bool) (f : W → ℕ) (m w : ℕ) (turn :
             (subst (λ (q : ℕ). Holds (pred m) w (mask_after 7 Forward q before) (layers 7 (pred m) w q g) (held f ws)) e holds) layer;
       }
 
-  pub went_back_unscaled : (s : ℕ) → 1 ≤ s → s ≤ 7 → suits 7 (s - 1) before ≡ true → suits 7 s list ≡ true → len ≡ inverse_len 7 s → n ≡ inverse_groups 7 s →
-      LayerWritten element f len n (inverse_pairs (pred m) w s len before list) ws ws' →
+  pub went_back_unscaled : (s : ℕ) → 1 ≤ s → s ≤ 7 → suits 7 (s - 1) before ≡ true → suits 7 s list ≡ true → n ≡ inverse_groups 7 s →
+      LayerWritten element f (inverse_len 7 s) n (inverse_pairs (pred m) w s (inverse_len 7 s) before list) ws ws' →
       InverseLayer 7 (pred m) w 1 s (mask_after 7 Inverse (s - 1) before) (mask_after 7 Inverse s list) (held f ws) (held f ws')
-  went_back_unscaled zero h k came goes el en l = absurd (omega arith)
-  went_back_unscaled (suc t) h k came goes el en l =
+  went_back_unscaled zero h k came goes en l = absurd (omega arith)
+  went_back_unscaled (suc t) h k came goes en l =
       let e : suc t - 1 ≡ t = omega arith in
       subst (λ (q : ℕ). InverseLayer 7 (pred m) w 1 (suc t) (mask_after 7 Inverse q before) (mask_after 7 Inverse (suc t) list) (held f ws) (held f ws')) (sym e)
-      (inverse_whole element f (pred m) w t k before list (rw e at came) goes ws ws' (rw (el, en) at l))
+      (inverse_whole element f (pred m) w t k before list (rw e at came) goes ws ws' (rw en at l))
 
 -- the exponents that the code looks up
 pub forward_exponent_by : (s count g z : ℕ) → count ≡ forward_groups s → z ≡ bitrev 7 (count + g) → z ≡ forward_exponent 7 s g

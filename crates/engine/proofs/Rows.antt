@@ -1,5 +1,5 @@
 -- Rows of words: a layer is written pair by pair and group by group.
-use Rattle.std.proofs.Common.{◌≡◌, ℕ, ◌+◌, ◌*◌, ◌<◌, ◌≤◌, Bool, true, ◌≢◌, List, map, length, get_or, set, sym, refl, ap, ◌∙◌, subst, mul-le-mul_right, add-mul, arith, length-set, get_or-set_other, get_or-set_same}
+use Rattle.std.proofs.Common.{◌≡◌, ℕ, ◌+◌, ◌*◌, ◌<◌, ◌≤◌, Bool, true, ◌≢◌, List, map, length, get_or, set, sym, refl, ap, ◌∙◌, mul-le-mul_right, add-mul, arith, length-set, get_or-set_other, get_or-set_same}
 use native.Mathlib.Decide.{ℕ_discrete, dec_lt}
 use lib.ListN.{length-map}
 use lib.Seq.{map-set}
@@ -78,9 +78,6 @@ module _ {W : Type 0} (element : W → Bool) (f : W → ℕ) where
     ];
   }
 
-  pub group_all : (base len n : ℕ) (Q : ℕ → ℕ → ℕ → ℕ → ℕ → Type 0) (ws ws' : List W) → n ≡ len → GroupWritten element f base len n Q ws ws' → GroupWritten element f base len len Q ws ws'
-  group_all base len n Q ws ws' e t = subst (λ (k : ℕ). GroupWritten element f base len k Q ws ws') e t
-
   pub layer_none : (len : ℕ) (Q : ℕ → ℕ → ℕ → ℕ → ℕ → ℕ → Type 0) (ws : List W) → Elements element ws → LayerWritten element f len 0 Q ws ws
   layer_none len Q ws all = record { size = refl; all = all; after = λ k h. refl; here = λ g o h l. absurd (omega arith) }
 
@@ -110,6 +107,3 @@ module _ {W : Type 0} (element : W → Bool) (f : W → ℕ) where
           rw (e, ← left, ← right) (c.here o v)
     ];
   }
-
-  pub layer_all : (len n count : ℕ) (Q : ℕ → ℕ → ℕ → ℕ → ℕ → ℕ → Type 0) (ws ws' : List W) → n ≡ count → LayerWritten element f len n Q ws ws' → LayerWritten element f len count Q ws ws'
-  layer_all len n count Q ws ws' e t = subst (λ (k : ℕ). LayerWritten element f len k Q ws ws') e t

@@ -7,51 +7,51 @@ use Rattle.algebra.specs.Masks.{Holds, suits, mask_after}
 use Rattle.algebra.proofs.Modular.{same_of, ◌⨾◌}
 use Rattle.algebra.proofs.Steps.{layers_zero, inv_layers_zero}
 use Rattle.algebra.proofs.MaskLists.{mask_none, mask_end}
-use Rattle.engine.specs.Steps.{Agrees, WentForward, WentBack, no_masks_lem}
+use Rattle.engine.specs.Steps.{Agrees, WentForward, WentBack, unmasked_list}
 
 -- the list suits any layer
-pub no_masks_suit : (s : ℕ) → suits 7 s (no_masks_lem s) ≡ true
+pub no_masks_suit : (s : ℕ) → suits 7 s (unmasked_list s) ≡ true
 no_masks_suit s = go (eqb s 0 || eqb s 7) refl
   where
-    go : (b : Bool) → (eqb s 0 || eqb s 7) ≡ b → suits 7 s (no_masks_lem s) ≡ true
+    go : (b : Bool) → (eqb s 0 || eqb s 7) ≡ b → suits 7 s (unmasked_list s) ≡ true
     go true e = rw e refl
     go false e = rw e refl
 
 module _ (neg w : ℕ) (f : ℕ → ℕ) where
-  pub forward_start : Holds neg w (mask_after 7 Forward 0 (no_masks_lem 0)) (layers 7 neg w 0 f) f
-  forward_start = record { at = λ j k. rw (mask_none 7 Forward (no_masks_lem 0) j, pow-zero w, layers_zero 7 neg w f) (same_of (omega arith)) }
+  pub forward_start : Holds neg w (mask_after 7 Forward 0 (unmasked_list 0)) (layers 7 neg w 0 f) f
+  forward_start = record { at = λ j k. rw (mask_none 7 Forward (unmasked_list 0) j, pow-zero w, layers_zero 7 neg w f) (same_of (omega arith)) }
 
-  pub forward_end : (h : ℕ → ℕ) (s : ℕ) → s ≡ 7 → Holds neg w (mask_after 7 Forward s (no_masks_lem s)) (layers 7 neg w s f) h → Agrees neg h (ntt 7 neg w f)
+  pub forward_end : (h : ℕ → ℕ) (s : ℕ) → s ≡ 7 → Holds neg w (mask_after 7 Forward s (unmasked_list s)) (layers 7 neg w s f) h → Agrees neg h (ntt 7 neg w f)
   unfolding ntt
   forward_end h s e H j k =
-      (subst (λ (q : ℕ). Holds neg w (mask_after 7 Forward q (no_masks_lem q)) (layers 7 neg w q f) h) e H).at j k
-      ⨾ same_of (rw (mask_end 7 Forward (no_masks_lem 7) j, pow-zero w) (omega arith))
+      (subst (λ (q : ℕ). Holds neg w (mask_after 7 Forward q (unmasked_list q)) (layers 7 neg w q f) h) e H).at j k
+      ⨾ same_of (rw (mask_end 7 Forward (unmasked_list 7) j, pow-zero w) (omega arith))
 
-  pub inverse_start : (i : ℕ) → Holds neg w (mask_after 7 Inverse 0 (no_masks_lem 0)) (inv_stage 7 neg w i 0 f) f
+  pub inverse_start : (i : ℕ) → Holds neg w (mask_after 7 Inverse 0 (unmasked_list 0)) (inv_stage 7 neg w i 0 f) f
   unfolding inv_stage
-  inverse_start i = record { at = λ j k. rw (mask_none 7 Inverse (no_masks_lem 0) j, pow-zero w, inv_layers_zero 7 neg w f) (same_of (omega arith)) }
+  inverse_start i = record { at = λ j k. rw (mask_none 7 Inverse (unmasked_list 0) j, pow-zero w, inv_layers_zero 7 neg w f) (same_of (omega arith)) }
 
-  pub inverse_end : (i : ℕ) (h : ℕ → ℕ) (s : ℕ) → s ≡ 7 → Holds neg w (mask_after 7 Inverse s (no_masks_lem s)) (inv_stage 7 neg w i s f) h → Agrees neg h (inv_ntt 7 neg w i f)
+  pub inverse_end : (i : ℕ) (h : ℕ → ℕ) (s : ℕ) → s ≡ 7 → Holds neg w (mask_after 7 Inverse s (unmasked_list s)) (inv_stage 7 neg w i s f) h → Agrees neg h (inv_ntt 7 neg w i f)
   unfolding inv_ntt inv_stage
   inverse_end i h s e H j k =
-      (subst (λ (q : ℕ). Holds neg w (mask_after 7 Inverse q (no_masks_lem q)) (inv_stage 7 neg w i q f) h) e H).at j k
-      ⨾ same_of (rw (mask_end 7 Inverse (no_masks_lem 7) j, pow-zero w) (omega arith))
+      (subst (λ (q : ℕ). Holds neg w (mask_after 7 Inverse q (unmasked_list q)) (inv_stage 7 neg w i q f) h) e H).at j k
+      ⨾ same_of (rw (mask_end 7 Inverse (unmasked_list 7) j, pow-zero w) (omega arith))
 
   -- one layer more, under lists that are these
-  module _ (s : ℕ) (before list : List ℕ) (eb : before ≡ no_masks_lem (s - 1)) (el : list ≡ no_masks_lem s) (h h' : ℕ → ℕ) where
+  module _ (s : ℕ) (before list : List ℕ) (eb : before ≡ unmasked_list (s - 1)) (el : list ≡ unmasked_list s) (h h' : ℕ → ℕ) where
     next : s ≡ s + 1 - 1
     next = omega arith
 
-    pub forward_more : WentForward neg w s before list h h' → Holds neg w (mask_after 7 Forward (s - 1) (no_masks_lem (s - 1))) (layers 7 neg w (s - 1) f) h →
-        Holds neg w (mask_after 7 Forward (s + 1 - 1) (no_masks_lem (s + 1 - 1))) (layers 7 neg w (s + 1 - 1) f) h'
+    pub forward_more : WentForward neg w s before list h h' → Holds neg w (mask_after 7 Forward (s - 1) (unmasked_list (s - 1))) (layers 7 neg w (s - 1) f) h →
+        Holds neg w (mask_after 7 Forward (s + 1 - 1) (unmasked_list (s + 1 - 1))) (layers 7 neg w (s + 1 - 1) f) h'
     forward_more W H =
-        subst (λ (q : ℕ). Holds neg w (mask_after 7 Forward q (no_masks_lem q)) (layers 7 neg w q f) h') next
+        subst (λ (q : ℕ). Holds neg w (mask_after 7 Forward q (unmasked_list q)) (layers 7 neg w q f) h') next
         (subst (λ (ms : List ℕ). Holds neg w (mask_after 7 Forward s ms) (layers 7 neg w s f) h') el
         (W.step f (subst (λ (ms : List ℕ). Holds neg w (mask_after 7 Forward (s - 1) ms) (layers 7 neg w (s - 1) f) h) (sym eb) H)))
 
-    pub inverse_more : (i : ℕ) → WentBack neg w i s before list h h' → Holds neg w (mask_after 7 Inverse (s - 1) (no_masks_lem (s - 1))) (inv_stage 7 neg w i (s - 1) f) h →
-        Holds neg w (mask_after 7 Inverse (s + 1 - 1) (no_masks_lem (s + 1 - 1))) (inv_stage 7 neg w i (s + 1 - 1) f) h'
+    pub inverse_more : (i : ℕ) → WentBack neg w i s before list h h' → Holds neg w (mask_after 7 Inverse (s - 1) (unmasked_list (s - 1))) (inv_stage 7 neg w i (s - 1) f) h →
+        Holds neg w (mask_after 7 Inverse (s + 1 - 1) (unmasked_list (s + 1 - 1))) (inv_stage 7 neg w i (s + 1 - 1) f) h'
     inverse_more i W H =
-        subst (λ (q : ℕ). Holds neg w (mask_after 7 Inverse q (no_masks_lem q)) (inv_stage 7 neg w i q f) h') next
+        subst (λ (q : ℕ). Holds neg w (mask_after 7 Inverse q (unmasked_list q)) (inv_stage 7 neg w i q f) h') next
         (subst (λ (ms : List ℕ). Holds neg w (mask_after 7 Inverse s ms) (inv_stage 7 neg w i s f) h') el
         (W.step f (subst (λ (ms : List ℕ). Holds neg w (mask_after 7 Inverse (s - 1) ms) (inv_stage 7 neg w i (s - 1) f) h) (sym eb) H)))

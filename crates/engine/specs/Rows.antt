@@ -6,6 +6,11 @@ use Rattle.algebra.specs.Congruence.{Same}
 pub record Elements {W : Type 0} (element : W → Bool) (ws : List W) : Type 0 where
   pub at : (k : ℕ) (d : W) → k < length ws → element (slice_index_or ws k d) ≡ true
 
+-- a row: 256 words, all of them elements
+pub record IsRow {W : Type 0} (element : W → Bool) (ws : List W) : Type 0 where
+  pub size : length ws ≡ 256
+  pub all : Elements element ws
+
 -- the number that the word at place j means
 abbrev pub held : {W : Type 0} → (W → ℕ) → List W → ℕ → ℕ
 held meaning ws j = slice_index (map meaning ws) j

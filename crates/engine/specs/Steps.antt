@@ -27,5 +27,5 @@ abbrev pub Agrees : (neg : ℕ) (f g : ℕ → ℕ) → Type 0
 Agrees neg f g = (j : ℕ) → j < 256 → Same neg (f j) (g j)
 
 -- the list that stands for no masks after this many layers
-abbrev pub no_masks_lem : ℕ → List ℕ
-no_masks_lem s = cond (s == 0 || s == 7) [] (0 ∷ [])
+abbrev pub unmasked_list : ℕ → List ℕ
+unmasked_list s = cond (s == 0 || s == 7) [] (0 ∷ [])

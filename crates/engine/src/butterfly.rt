@@ -1,8 +1,9 @@
 ghost use Rattle.std.specs.Prelude.{◌≡◌, pred, ◌+◌, ◌*◌, ◌<◌, ◌≤◌, length};
 ghost use Rattle.algebra.specs.Masks.{MaskedForward, MaskedInverse};
-ghost use Rattle.engine.specs.Rows.{Elements, PairWritten, GroupWritten};
+ghost use Rattle.engine.specs.Rows.{Elements, IsRow, PairWritten, GroupWritten};
 ghost use Rattle.engine.specs.Pairs.{forward_pair, inverse_pair};
 
+use crate::group::Group;
 use crate::masks::Masks;
 use rings::Ring;
 
@@ -29,6 +30,7 @@ pub(crate) fn forward_butterfly<R: Ring>(
     words[j] = ring.difference(a, b);
 }
 
+// No instance of the forward one by a parameter: here the two products come after the sum and the difference, there before.
 /// A masked inverse butterfly: the words at i and j come under the mask e, and go under o1 and o2.
 pub(crate) fn inverse_butterfly<R: Ring>(
     ring: &R,
@@ -54,34 +56,34 @@ pub(crate) fn inverse_butterfly<R: Ring>(
     words[j] = ring.product(v, d);
 }
 
+// Forward and back a group asks the two lists for other masks: forward two of `before` and one of `list`, back one and two. A choice between
+// them would stand in the innermost loop. The loops go by offset, since a butterfly finds its masks by number and writes two places `len`
+// apart; of two halves gone through by `iter_mut` and `zip`, a proof would know the lengths alone.
+
 /// The butterflies of one group of a forward layer.
 pub(crate) fn forward_group<R: Ring>(
     ring: &R,
     words: &mut [R::Word],
-    group: usize,
-    len: usize,
-    z: u8,
+    group: Group,
     before: &Masks,
     list: &Masks,
 )
-    requires size { length words.old ≡ 256 }
-    requires inside { group * (2 * len) + 2 * len ≤ 256 }
-    requires all { Elements (R.element ring.now) words.old }
-    ensures { GroupWritten (R.element ring.now) (R.meaning ring.now) (group * (2 * len)) len len (forward_pair (pred (R.modulus ring.now)) (R.root ring.now) z len group before.now.bytes.now list.now.bytes.now) words.old words.new }
+    requires { IsRow (R.element ring.now) words.old }
+    ensures { GroupWritten (R.element ring.now) (R.meaning ring.now) (group.index * (2 * group.len)) group.len group.len (forward_pair (pred (R.modulus ring.now)) (R.root ring.now) group.z group.len group.index before.now.bytes.now list.now.bytes.now) words.old words.new }
 {
-    let base = group * (2 * len);
-    let own = len * group;
-    let wide = 2 * len * (group / 2);
-    for offset in 0..len {
+    let base = group.base();
+    let own = group.own();
+    let wide = group.wide();
+    for offset in 0..group.len {
         let e1 = before.at(wide + offset);
-        let e2 = before.at(wide + (offset + len));
+        let e2 = before.at(wide + (offset + group.len));
         let e3 = list.at(own + offset);
         forward_butterfly(
             ring,
             words,
             base + offset,
-            base + offset + len,
-            z,
+            base + offset + group.len,
+            group.z,
             e1,
             e2,
             e3,
@@ -93,30 +95,26 @@ pub(crate) fn forward_group<R: Ring>(
 pub(crate) fn inverse_group<R: Ring>(
     ring: &R,
     words: &mut [R::Word],
-    group: usize,
-    len: usize,
-    z: u8,
+    group: Group,
     before: &Masks,
     list: &Masks,
 )
-    requires size { length words.old ≡ 256 }
-    requires inside { group * (2 * len) + 2 * len ≤ 256 }
-    requires all { Elements (R.element ring.now) words.old }
-    ensures { GroupWritten (R.element ring.now) (R.meaning ring.now) (group * (2 * len)) len len (inverse_pair (pred (R.modulus ring.now)) (R.root ring.now) z len group before.now.bytes.now list.now.bytes.now) words.old words.new }
+    requires { IsRow (R.element ring.now) words.old }
+    ensures { GroupWritten (R.element ring.now) (R.meaning ring.now) (group.index * (2 * group.len)) group.len group.len (inverse_pair (pred (R.modulus ring.now)) (R.root ring.now) group.z group.len group.index before.now.bytes.now list.now.bytes.now) words.old words.new }
 {
-    let base = group * (2 * len);
-    let own = len * group;
-    let wide = 2 * len * (group / 2);
-    for offset in 0..len {
+    let base = group.base();
+    let own = group.own();
+    let wide = group.wide();
+    for offset in 0..group.len {
         let e = before.at(own + offset);
         let o1 = list.at(wide + offset);
-        let o2 = list.at(wide + (offset + len));
+        let o2 = list.at(wide + (offset + group.len));
         inverse_butterfly(
             ring,
             words,
             base + offset,
-            base + offset + len,
-            z,
+            base + offset + group.len,
+            group.z,
             e,
             o1,
             o2,

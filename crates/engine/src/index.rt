@@ -1,6 +1,7 @@
 ghost use Rattle.std.specs.Prelude.{◌≡◌, ◌<◌};
-ghost use Rattle.algebra.specs.Layers.{bitrev, forward_len, forward_groups, inverse_len, inverse_groups};
+ghost use Rattle.algebra.specs.Layers.{bitrev, forward_len, forward_groups, forward_exponent, inverse_len, inverse_groups, inverse_exponent};
 
+use crate::group::Group;
 use crate::masked::Layer;
 
 const REVERSED: [u8; 128] = [
@@ -21,8 +22,8 @@ pub fn reversed(x: u8) -> u8
 }
 
 impl Layer {
-    /// Half the positions of a group of this forward layer.
-    pub(crate) fn forward_half(self) -> usize
+    // Half the positions of a group of this forward layer.
+    fn forward_half(self) -> usize
         ensures { result ≡ forward_len self.number }
     {
         1 << (8 - self.number)
@@ -35,8 +36,22 @@ impl Layer {
         1 << (self.number - 1)
     }
 
-    /// Half the positions of a group of this inverse layer.
-    pub(crate) fn inverse_half(self) -> usize
+    /// A group of this forward layer.
+    pub(crate) fn forward_group_at(self, index: usize) -> Group
+        requires { index < forward_groups self.number }
+        ensures index { result.index ≡ index }
+        ensures half { result.len ≡ forward_len self.number }
+        ensures factor { result.z ≡ forward_exponent 7 self.number index }
+    {
+        Group {
+            index,
+            len: self.forward_half(),
+            z: reversed((self.forward_count() + index) as u8),
+        }
+    }
+
+    // Half the positions of a group of this inverse layer.
+    fn inverse_half(self) -> usize
         ensures { result ≡ inverse_len 7 self.number }
     {
         1 << self.number
@@ -47,5 +62,19 @@ impl Layer {
         ensures { result ≡ inverse_groups 7 self.number }
     {
         1 << (7 - self.number)
+    }
+
+    /// A group of this inverse layer.
+    pub(crate) fn inverse_group_at(self, index: usize) -> Group
+        requires { index < inverse_groups 7 self.number }
+        ensures index { result.index ≡ index }
+        ensures half { result.len ≡ inverse_len 7 self.number }
+        ensures factor { result.z ≡ inverse_exponent 7 self.number index }
+    {
+        Group {
+            index,
+            len: self.inverse_half(),
+            z: reversed((2 * self.inverse_count() - 1 - index) as u8),
+        }
     }
 }

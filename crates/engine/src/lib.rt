@@ -1,6 +1,7 @@
 #![tactic(auto)]
 
 mod butterfly;
+mod group;
 pub mod index;
 pub mod layer;
 pub mod masked;

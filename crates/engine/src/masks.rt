@@ -5,8 +5,8 @@ ghost use Rattle.algebra.specs.Masks.{is_list_length, suits, block};
 #[derive(Clone, Copy)]
 pub(crate) struct Masks<'a> {
     bytes: &'a [u8],
-    // a block has 2^shift butterflies
-    shift: u8,
+    // a block has 2^shift butterflies; kept beside the list, so that looking up a mask takes no division
+    shift: u32,
     ghost width: { (0 < length bytes.now → 128 / length bytes.now ≡ 2 ^ shift) },
     ghost small: { shift < 8 },
 }
@@ -16,12 +16,9 @@ pub fn suit(layers: u8, list: &[u8]) -> bool
     ensures { result ≡ suits 7 layers list.now }
 {
     if layers == 0 || layers == 7 {
-        list.len() == 0
+        list.is_empty()
     } else {
-        match list.len() {
-            1 | 2 | 4 | 8 | 16 | 32 | 64 | 128 => true,
-            _ => false,
-        }
+        list.len() <= 128 && list.len().is_power_of_two()
     }
 }
 
@@ -32,14 +29,8 @@ impl<'a> Masks<'a> {
         ensures { result.bytes.now ≡ bytes.now }
     {
         let shift = match bytes.len() {
-            1 => 7,
-            2 => 6,
-            4 => 5,
-            8 => 4,
-            16 => 3,
-            32 => 2,
-            64 => 1,
-            _ => 0,
+            0 => 0,
+            n => (128 / n).trailing_zeros(),
         };
         Masks { bytes, shift }
     }

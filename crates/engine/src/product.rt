@@ -1,6 +1,6 @@
 ghost use Rattle.std.specs.Prelude.{◌≡◌, pred, true, length};
 ghost use Rattle.algebra.specs.Product.{BaseProducts};
-ghost use Rattle.engine.specs.Rows.{Elements, held};
+ghost use Rattle.engine.specs.Rows.{Elements, IsRow, held};
 ghost use Rattle.engine.specs.Slots.{SlotProduct};
 
 use crate::index::reversed;
@@ -31,12 +31,13 @@ pub fn slot_product<R: Ring>(
 
 /// The products of the 128 slots of two transforms.
 pub fn base_products<R: Ring>(ring: &R, left: &[R::Word], right: &[R::Word], out: &mut [R::Word])
-    requires sizes { (length left.now ≡ 256) × ((length right.now ≡ 256) × (length out.old ≡ 256)) }
-    requires left { Elements (R.element ring.now) left.now }
-    requires right { Elements (R.element ring.now) right.now }
+    requires left { IsRow (R.element ring.now) left.now }
+    requires right { IsRow (R.element ring.now) right.now }
+    requires out { length out.old ≡ 256 }
     ensures all { Elements (R.element ring.now) out.new }
     ensures products { BaseProducts 7 (pred (R.modulus ring.now)) (R.root ring.now) (held (R.meaning ring.now) left.now) (held (R.meaning ring.now) right.now) (held (R.meaning ring.now) out.new) }
 {
+    // By number: of `out` gone through by `chunks_exact_mut` a proof would know only the length.
     for slot in 0..128 {
         let i = 2 * slot;
         let c = ring.power(2 * reversed(slot as u8) + 1);

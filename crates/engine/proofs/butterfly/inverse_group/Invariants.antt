@@ -7,5 +7,5 @@ abbrev pub invariant-loop-offset : goal.invariant-loop-offset
 invariant-loop-offset g l =
     let r = g.R.Ring in
     let s = l.ring in
-    GroupWritten (r.element s) (r.meaning s) (l.group * (2 * l.len)) l.len l.offset
-    (inverse_pair (pred (r.modulus s)) (r.root s) l.z l.len l.group l.before.bytes.now l.list.bytes.now) l.initial.words l.words
+    GroupWritten (r.element s) (r.meaning s) (l.group.index * (2 * l.group.len)) l.group.len l.offset
+    (inverse_pair (pred (r.modulus s)) (r.root s) l.group.z l.group.len l.group.index l.before.bytes.now l.list.bytes.now) l.initial.words l.words

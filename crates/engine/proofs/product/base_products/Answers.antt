@@ -26,6 +26,6 @@ pub returns : goal.returns
 returns g c =
     let s = c.args.ring.now in
     record {
-      all = slots_elements (g.R.Ring.element s) (g.R.Ring.meaning s) (g.R.Ring.modulus s) (g.R.Ring.root s) _ _ c.loop-slot.slot _ _ c.requires.sizes.1.1 (omega arith) c.loop-slot.invariant;
+      all = slots_elements (g.R.Ring.element s) (g.R.Ring.meaning s) (g.R.Ring.modulus s) (g.R.Ring.root s) _ _ c.loop-slot.slot _ _ c.requires.out (omega arith) c.loop-slot.invariant;
       products = slots_all (g.R.Ring.element s) (g.R.Ring.meaning s) (g.R.Ring.modulus s) (g.R.Ring.root s) _ _ c.loop-slot.slot _ _ (omega arith) c.loop-slot.invariant;
     }
