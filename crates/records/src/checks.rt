@@ -1,21 +1,31 @@
-ghost use Rattle.std.specs.Prelude.{◌≡◌, [], ◌∷◌, IfOk};
-ghost use Rattle.std.proofs.Math.Option.{none, some};
-ghost use Rattle.std.specs.Option as options;
+ghost use Rattle.std.specs.Prelude.{◌≡◌, ◌&&◌, [], ◌∷◌, IfOk, nat_lt};
+ghost use Rattle.algebra.specs.Masks.{suits};
 ghost use Rattle.rings.specs.declared.refusal.Refusal.TheVariants as refuse;
-ghost use Rattle.rings.specs.Refusals.{first, scan, flaw};
+ghost use Rattle.rings.specs.Refusals.{complaint, first, test, scan, flaw};
 ghost use Rattle.histories.specs.Calls.{load, turn, refresh, clear, release, eight, free, opened, rules, polynomial};
-ghost use Rattle.histories.specs.Answers.{complaint};
 ghost use Rattle.records.specs.Rows.{rows};
 ghost use Rattle.records.specs.Tables.{state};
 ghost use Rattle.records.specs.Turns.{Turns};
 
 use crate::forms::{form_after, idle, next_layer, used};
-use crate::lists::{digits, in_range, sized, suited, witness};
 use crate::table::Table;
 use crate::turn::Turn;
 use algebra::Direction;
+use engine::Layer;
+use engine::masks::suit;
 use histories::Index;
 use rings::Refusal;
+use rings::checks::{digits, in_range, sized};
+
+// A witness that has to be from 1 to p - 1.
+fn witness(c: u32, p: u32) -> Result<(), Refusal>
+    ensures { complaint result ≡ first (test (nat_lt 0 c && nat_lt c p) refuse.Witness ∷ []) }
+{
+    if c == 0 || c >= p {
+        return Err(Refusal::Witness);
+    }
+    Ok(())
+}
 
 /// What a load is refused for; else its register.
 pub fn check_load(
@@ -42,28 +52,27 @@ pub fn check_load(
     Ok(register)
 }
 
-// The first other register that is in work, unless r is in work itself.
-fn other_in_work(table: &Table, register: Index) -> Option<u8>
-    ensures { options.MatchOption result (flaw (free (rows table.now.records) register.number) eight ≡ none) (λ k. flaw (free (rows table.now.records) register.number) eight ≡ some k) }
-{
-    if table.record_of(register).form.is_in_work() {
-        return None;
-    }
-    for k in 0..8 {
-        if k != register.number && table.record_of(Index { number: k }).form.is_in_work() {
-            return Some(k);
-        }
-    }
-    None
-}
-
-// While a layer would start a transform of r, no other register may be in work.
+// While a layer would start a transform of a register, no other may be in work.
 fn unhindered(table: &Table, register: Index) -> Result<(), Refusal>
     ensures { complaint result ≡ first (scan (flaw (free (rows table.now.records) register.number) eight) refuse.Busy ∷ []) }
 {
-    match other_in_work(table, register) {
-        Some(k) => Err(Refusal::Busy(k)),
+    if table.record_of(register).form.is_in_work() {
+        return Ok(());
+    }
+    match table.first_in_work() {
+        Some(k) => Err(Refusal::Busy(k as u8)),
         None => Ok(()),
+    }
+}
+
+// A mask list that has to suit the layer of a register.
+fn suited(layer: Layer, masks: &[u8], register: Index) -> Result<(), Refusal>
+    ensures { complaint result ≡ first (test (suits 7 layer.number masks.now) (refuse.Masks register.number) ∷ []) }
+{
+    if suit(layer.number, masks) {
+        Ok(())
+    } else {
+        Err(Refusal::Masks(register.number))
     }
 }
 

@@ -1,9 +1,8 @@
 ghost use Rattle.std.specs.Prelude.{◌≡◌, suc, true, [], ◌∷◌, IfOk};
 ghost use Rattle.rings.specs.declared.refusal.Refusal.TheVariants as refuse;
-ghost use Rattle.rings.specs.Refusals.{first, test as checked};
+ghost use Rattle.rings.specs.Refusals.{complaint, first, test};
 ghost use Rattle.histories.specs.Forms.{occupied, turns, done_of, form_after as after};
 ghost use Rattle.histories.specs.Calls.{used as is_used, idle as is_idle};
-ghost use Rattle.histories.specs.Answers.{complaint};
 ghost use Rattle.records.specs.Rows.{rows, proper as is_proper};
 
 use crate::table::Table;
@@ -35,7 +34,7 @@ pub(crate) fn idle(table: &Table, register: Index) -> Result<(), Refusal>
 
 /// The layer of a register that comes next in this direction.
 pub(crate) fn next_layer(table: &Table, way: Direction, register: Index) -> Result<Layer, Refusal>
-    ensures says { complaint result ≡ first (is_used (rows table.now.records) register.number ∷ checked (turns way (rows table.now.records register.number).form) (refuse.Form register.number) ∷ []) }
+    ensures says { complaint result ≡ first (is_used (rows table.now.records) register.number ∷ test (turns way (rows table.now.records register.number).form) (refuse.Form register.number) ∷ []) }
     ensures found { IfOk result (λ layer. layer.number ≡ suc (done_of (rows table.now.records register.number).form)) }
 {
     let done = match (table.record_of(register).form, way) {

@@ -1,16 +1,15 @@
 ghost use Rattle.std.specs.Prelude.{◌≡◌, IfOk};
-ghost use Rattle.rings.specs.Refusals.{first};
+ghost use Rattle.rings.specs.Refusals.{complaint, first};
 ghost use Rattle.histories.specs.Calls.{join as joining, factors as of_factors, rules, times};
 ghost use Rattle.histories.specs.Kinds.{operation_of};
-ghost use Rattle.histories.specs.Answers.{complaint};
 ghost use Rattle.records.specs.Rows.{rows};
 ghost use Rattle.records.specs.Joins.{Joins, of_operands, of_forms, of_records};
 
 use crate::forms::{idle, used};
-use crate::lists::sized;
 use crate::table::Table;
 use histories::{Form, Index, Join, Operation};
 use rings::Refusal;
+use rings::checks::sized;
 
 // The factors of a product: none is a product itself, and none has a silent witness.
 fn factors(table: &Table, a: Index, b: Index) -> Result<(), Refusal>

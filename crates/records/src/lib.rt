@@ -3,7 +3,6 @@
 pub mod checks;
 pub(crate) mod forms;
 pub mod joins;
-pub(crate) mod lists;
 pub mod table;
 pub mod turn;
 

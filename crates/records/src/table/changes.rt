@@ -1,4 +1,4 @@
-ghost use Rattle.std.specs.Prelude.{◌≡◌, ◌<◌, ◌≤◌, true, length};
+ghost use Rattle.std.specs.Prelude.{◌≡◌, ◌<◌, ◌≤◌, true, length, position};
 ghost use Rattle.algebra.specs.Masks.{is_list_length};
 ghost use Rattle.histories.specs.Forms.{in_work, whole};
 ghost use Rattle.histories.specs.Calls.{empty_record, opened, form_of};
@@ -115,6 +115,13 @@ impl Table {
         ensures { result ≡ rows self.now.records register.number }
     {
         self.records[register.number as usize]
+    }
+
+    /// The first register that is in work.
+    pub(crate) fn first_in_work(&self) -> Option<usize>
+        ensures { result ≡ position (λ x. in_work x.form) self.now.records }
+    {
+        self.records.iter().position(|x| x.form.is_in_work())
     }
 
     /// The list of masks that the words carry before this layer: none before layer 1, else the list that the layer before took.
