@@ -1,33 +1,23 @@
 -- What the checks of a layer and the table's invariant give.
-use Rattle.std.proofs.Common.{◌≡◌, ℕ, suc, ◌-◌, ◌<◌, ◌≤◌, Bool, true, false, cond, not, ◌&&◌, ◌||◌, eqb, leb, List, [], ◌∷◌, length, sym, refl, ap, ◌∙◌, ⊎_elim, arith}
+use Rattle.std.proofs.Common.{◌≡◌, ℕ, suc, ◌-◌, ◌<◌, ◌≤◌, Bool, true, false, cond, not, ◌&&◌, ◌||◌, eqb, leb, List, length, sym, refl, ap, ◌∙◌, ⊎_elim, arith}
 use mathlib.Core.Option.{none}
 use Rattle.std.proofs.lemmas.Bool.Decides.{nat_tests}
 use Rattle.std.proofs.lemmas.List.{get_or_past}
-use Rattle.std.proofs.lemmas.Bool.{true≢false, and_parts, and_from, or_cases, or_from, cases_eq, cases_lt, eq-eqb, ne_eqb, eqb-true, leb-true, le-leb, lt-ltb}
-use Rattle.rings.specs.declared.refusal.Refusal.TheVariants as refuse
-use Rattle.rings.specs.Refusals.{test, scan, first, flaw}
+use Rattle.std.proofs.lemmas.Bool.{true≢false, and_parts, and_from, or_cases, or_from, cases_eq, cases_lt, eq-eqb, ne_eqb, eqb-true, leb-true, le-leb}
+use Rattle.rings.specs.Refusals.{flaw}
 use Rattle.algebra.specs.declared.Direction.{Direction}
 use Rattle.algebra.specs.declared.Direction.TheVariants.{Forward, Inverse}
 use Rattle.algebra.specs.Masks.{is_list_length, suits}
 use Rattle.histories.specs.declared.register.Form.{Form}
 use Rattle.histories.specs.declared.register.Form.TheVariants.{Empty, Natural, Transformed, Rising, Falling}
 use Rattle.histories.specs.declared.register.Register.{Register}
-use Rattle.histories.specs.Forms.{in_work, turns, done_of, form_after}
-use Rattle.histories.specs.declared.index.Index.{Index}
-use Rattle.histories.specs.Calls.{empty_record, sized, used, eight, free, turn, rules}
+use Rattle.histories.specs.Forms.{in_work, done_of, form_after}
+use Rattle.histories.specs.Calls.{empty_record, eight, free}
 use Rattle.records.specs.declared.turn.Turn.{Turn}
 use Rattle.records.specs.Rows.{rows, proper, Alone, Single, Kept}
 use Rattle.records.specs.Tables.{carried}
 use Rattle.records.specs.Turns.{Turns}
-use Rattle.records.proofs.Chains.{passed, passed_both, unflawed}
 use Rattle.records.proofs.Eights.{each_of_eight}
-
-done_low : (F : Form) → proper F ≡ true → done_of F ≤ 6
-done_low Empty h = omega arith
-done_low Natural h = omega arith
-done_low Transformed h = omega arith
-done_low (Rising s) h = leb-true s 6 (and_parts (leb 1 s) (leb s 6) h).1
-done_low (Falling s) h = leb-true s 6 (and_parts (leb 1 s) (leb s 6) h).1
 
 -- between two layers there is a list of masks
 middle : (s : ℕ) (list : List ℕ) → (leb 1 s && leb s 6) ≡ true → is_list_length (length list) ≡ true → suits 7 (suc s - 1) (carried (suc s) list) ≡ true
@@ -94,20 +84,6 @@ others S r single beyond h k w =
 -- no register beyond the eight is in work
 beyond_idle : (rs : List Register) → length rs ≡ 8 → (k : ℕ) → 8 ≤ k → in_work (rows rs k).form ≡ false
 beyond_idle rs size k l = ap (λ (x : Register). in_work x.form) (get_or_past rs k empty_record (omega arith))
-
--- the list of checks, where all before BUSY pass, and where all before MASKS pass
-pub asks_busy : (S : ℕ → Register) (lent : ℕ) (register : Index) (way : Direction) (masks : List ℕ) → none ≡ first (sized lent 2048 0 ∷ []) →
-    none ≡ first (used S register.number ∷ test (turns way (S register.number).form) (refuse.Form register.number) ∷ []) →
-    first (rules 0 0 S lent (turn way register.number masks))
-    ≡ first (scan (flaw (free S register.number) eight) refuse.Busy ∷ test (suits 7 (suc (done_of (S register.number).form)) masks) (refuse.Masks register.number) ∷ [])
-asks_busy S lent register way masks h j =
-    let both = passed_both _ _ _ _ j in rw (passed _ _ h, lt-ltb register.number 8 register.known, both.0, both.1)
-
-pub asks_masks : (S : ℕ → Register) (lent : ℕ) (register : Index) (way : Direction) (masks : List ℕ) → none ≡ first (sized lent 2048 0 ∷ []) →
-    none ≡ first (used S register.number ∷ test (turns way (S register.number).form) (refuse.Form register.number) ∷ []) →
-    none ≡ first (scan (flaw (free S register.number) eight) refuse.Busy ∷ []) → (layer : ℕ) → layer ≡ suc (done_of (S register.number).form) →
-    first (rules 0 0 S lent (turn way register.number masks)) ≡ first (test (suits 7 layer masks) (refuse.Masks register.number) ∷ [])
-asks_masks S lent register way masks h j b layer l = rw (l, asks_busy S lent register way masks h j, unflawed _ _ b)
 
 -- what a layer that passes them may count on
 pub turns_found : (rs : List Register) (list : List ℕ) (way : Direction) (masks : List ℕ) (x : Turn) →

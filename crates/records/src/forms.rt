@@ -15,9 +15,10 @@ use rings::Refusal;
 pub(crate) fn used(table: &Table, register: Index) -> Result<(), Refusal>
     ensures { complaint result ≡ first (is_used (rows table.now.records) register.number ∷ []) }
 {
-    match table.record_of(register).form {
-        Form::Empty => Err(Refusal::Empty(register.number)),
-        _ => Ok(()),
+    if table.record_of(register).form == Form::Empty {
+        Err(Refusal::Empty(register.number))
+    } else {
+        Ok(())
     }
 }
 

@@ -3,7 +3,7 @@ ghost use Rattle.rings.specs.Refusals.{complaint, first};
 ghost use Rattle.histories.specs.Calls.{join as joining, factors as of_factors, rules, times};
 ghost use Rattle.histories.specs.Kinds.{operation_of};
 ghost use Rattle.records.specs.Rows.{rows};
-ghost use Rattle.records.specs.Joins.{Joins, of_operands, of_forms, of_records};
+ghost use Rattle.records.specs.Joins.{Joins, of_operands};
 
 use crate::forms::{idle, used};
 use crate::table::Table;
@@ -54,23 +54,6 @@ fn operands(table: &Table, join: Join) -> Result<(), Refusal>
     }
 }
 
-// The forms of all three registers: that of the result must not be in work.
-fn placed(table: &Table, join: Join) -> Result<(), Refusal>
-    ensures { complaint result ≡ first (of_forms (rows table.now.records) (operation_of join.operation) join.d.number join.a.number join.b.number) }
-{
-    idle(table, join.d)?;
-    operands(table, join)
-}
-
-// What is checked in the records of the three registers.
-fn suitable(table: &Table, join: Join) -> Result<(), Refusal>
-    ensures { complaint result ≡ first (of_records (rows table.now.records) (operation_of join.operation) join.d.number join.a.number join.b.number) }
-{
-    used(table, join.a)?;
-    used(table, join.b)?;
-    placed(table, join)
-}
-
 /// What a sum, a difference or a product is refused for; else its registers.
 pub fn check_join(
     table: &Table,
@@ -90,6 +73,9 @@ pub fn check_join(
         a: Index::try_from(a)?,
         b: Index::try_from(b)?,
     };
-    suitable(table, join)?;
+    used(table, join.a)?;
+    used(table, join.b)?;
+    idle(table, join.d)?;
+    operands(table, join)?;
     Ok(join)
 }

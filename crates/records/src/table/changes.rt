@@ -1,4 +1,4 @@
-ghost use Rattle.std.specs.Prelude.{◌≡◌, ◌<◌, ◌≤◌, true, length, position};
+ghost use Rattle.std.specs.Prelude.{◌≡◌, ◌+◌, ◌-◌, ◌*◌, ◌%◌, ◌<◌, ◌≤◌, true, length, position};
 ghost use Rattle.algebra.specs.Masks.{is_list_length};
 ghost use Rattle.histories.specs.Forms.{in_work, whole};
 ghost use Rattle.histories.specs.Calls.{empty_record, opened, form_of};
@@ -23,10 +23,30 @@ const EMPTY: Register = Register {
 pub fn loaded_form(kind: Kind) -> Form
     ensures { result ≡ form_of (kind_of kind) }
 {
-    match kind {
-        Kind::Polynomial => Form::Natural,
-        Kind::Transform => Form::Transformed,
-    }
+    Form::from(kind)
+}
+
+// The sum, the difference and the product of two numbers modulo p.
+
+fn sum(p: u32, c: u32, d: u32) -> u32
+    requires { 0 < p }
+    ensures { result ≡ (c + d) % p }
+{
+    ((c as u64 + d as u64) % p as u64) as u32
+}
+
+fn difference(p: u32, c: u32, d: u32) -> u32
+    requires { 0 < p }
+    ensures { result ≡ (c + (p - d)) % p }
+{
+    ((c as u64 + p.saturating_sub(d) as u64) % p as u64) as u32
+}
+
+fn product(p: u32, c: u32, d: u32) -> u32
+    requires { 0 < p }
+    ensures { result ≡ (c * d) % p }
+{
+    ((c as u64 * d as u64) % p as u64) as u32
 }
 
 // The record of a result. The numbers of the witness are added, subtracted or multiplied modulo p.
@@ -34,26 +54,25 @@ fn result(p: u32, operation: Operation, x: Register, y: Register) -> Register
     requires { 0 < p }
     ensures { result ≡ joined p (operation_of operation) x y }
 {
-    let n = p as u64;
     let level = x.level.max(y.level);
     match operation {
         Operation::Plus => Register {
             form: x.form,
             level,
-            a: ((x.a as u64 + y.a as u64) % n) as u32,
-            b: ((x.b as u64 + y.b as u64) % n) as u32,
+            a: sum(p, x.a, y.a),
+            b: sum(p, x.b, y.b),
         },
         Operation::Minus => Register {
             form: x.form,
             level,
-            a: ((x.a as u64 + n.saturating_sub(y.a as u64)) % n) as u32,
-            b: ((x.b as u64 + n.saturating_sub(y.b as u64)) % n) as u32,
+            a: difference(p, x.a, y.a),
+            b: difference(p, x.b, y.b),
         },
         Operation::Times => Register {
             form: x.form,
             level: 2,
             a: 0,
-            b: ((x.a as u64 * y.a as u64) % n) as u32,
+            b: product(p, x.a, y.a),
         },
     }
 }

@@ -14,8 +14,9 @@ invariant_of-self-clause-kept c =
     idle_kept s.records c.args.join.d.number c.result.result _ (omega arith) s.kept
     (ap working c.result.ensures ∙ ap working c.record_of-x.ensures ∙ whole_idle (rows s.records c.args.join.a.number).form c.requires.entire)
 
-pub returns : goal.returns
-returns c = changed c.args.self.now.records c.args.join.d.number _ _ _ (omega arith) (c.result.ensures ∙ rw (c.record_of-x.ensures, c.record_of-y.ensures))
-
 pub invariant_of-self-clause-eight : goal.invariant_of-self-clause-eight
 invariant_of-self-clause-eight c = length-set c.args.self.now.records c.args.join.d.number _ ∙ c.args.self.now.eight
+
+pub returns : goal.returns
+returns c =
+    changed c.args.self.now.records c.args.join.d.number _ _ _ (omega arith) (c.result.ensures ∙ rw (c.record_of-x.ensures, c.record_of-y.ensures))
