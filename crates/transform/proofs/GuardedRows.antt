@@ -67,13 +67,13 @@ module _ {W : Type 0} (G : Guarded W) (law : Lawful G) (q big : ℕ) (check : G.
 
   module _ (out : List ℕ) (room : length out ≡ 256) (all : Elements G.element ws')
       (split : (k : ℕ) → k < 256 → get_or out k 0 ≡ held G.meaning ws' k % 3329) where
-    pub guarded_out : Transformed f out
+    guarded_out : Transformed f out
     guarded_out =
         transformed_at f out size range room
         (record { at = λ k d l. lt-ltb _ _ (rw (get_or_default out k d 0 l, split k (omega arith)) (mod-lt _ (lit< tt))) })
         (λ j l. same_of (split j l) ⨾ same_mod {neg = 3328} (held G.meaning ws' j) ⨾ agrees_with j l)
 
-    pub guarded_words : WordsHold G ws' out
+    guarded_words : WordsHold G ws' out
     guarded_words = record {
       at = λ j d l. (
         G.number (get_or ws' j d),
@@ -85,3 +85,6 @@ module _ {W : Type 0} (G : Guarded W) (law : Lawful G) (q big : ℕ) (check : G.
         },
       );
     }
+
+    pub guarded_row : Transformed f out × WordsHold G ws' out
+    guarded_row = (guarded_out, guarded_words)

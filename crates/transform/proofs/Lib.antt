@@ -1,3 +1,4 @@
 pub mod Plains
+pub mod Passing
 pub mod Written
 pub mod GuardedRows

@@ -1,8 +1,8 @@
 -- From words of the plain ring modulo 3329 to polynomials, and back.
-use Rattle.std.proofs.Common.{◌≡◌, ℕ, ◌<◌, ◌≤◌, true, ◌&&◌, ltb, leb, List, length, get_or, sym, ap, map-id, arith}
+use Rattle.std.proofs.Common.{◌≡◌, ℕ, ◌<◌, ltb, List, length, get_or, sym, ap, map-id, arith}
 use mathlib.Core.Option.{none}
 use Rattle.std.proofs.lemmas.List.{get_or_default}
-use Rattle.std.proofs.lemmas.Bool.{lt-ltb, ltb-true, leb-true, and_parts}
+use Rattle.std.proofs.lemmas.Bool.{lt-ltb, ltb-true}
 use Rattle.algebra.specs.Polynomials.{coefficient, listed, Polynomial}
 use Rattle.algebra.proofs.Modular.{same_sym}
 use Rattle.algebra.proofs.Lists.{listed_is}
@@ -15,11 +15,12 @@ use Rattle.engine.specs.Steps.{Agrees}
 pub held_is : (xs : List ℕ) → held (λ (x : ℕ). x) xs ≡ coefficient xs
 held_is xs = ap (λ (ys : List ℕ). coefficient ys) (map-id xs)
 
-pub elements_of : (m : ℕ) (xs : List ℕ) → m ≡ 3329 → flaw (below 3329) xs ≡ none → Elements (λ (x : ℕ). ltb x m) xs
-elements_of m xs e h = record { at = λ k d l. lt-ltb _ _ (rw e (within k d l)) }
+-- a copy of checked coefficients has elements
+pub elements_of : (m : ℕ) (f ws : List ℕ) → m ≡ 3329 → flaw (below 3329) f ≡ none → ws ≡ f → Elements (λ (x : ℕ). ltb x m) ws
+elements_of m f ws e h copied = rw copied (record { at = λ k d l. lt-ltb _ _ (rw e (within k d l)) })
   where
-    within : (k d : ℕ) → k < length xs → get_or xs k d < 3329
-    within k d l = rw (get_or_default xs k d 0 l) (low_at 3329 xs h k l)
+    within : (k d : ℕ) → k < length f → get_or f k d < 3329
+    within k d l = rw (get_or_default f k d 0 l) (low_at 3329 f h k l)
 
 pub polynomial_of : (m : ℕ) (xs : List ℕ) → m ≡ 3329 → length xs ≡ 256 → Elements (λ (x : ℕ). ltb x m) xs → Polynomial 3328 xs
 polynomial_of m xs e size E = record { size = size; small = λ j l. omega (arith, ltb-true (coefficient xs j) m (E.at j 0 (omega arith))) }
@@ -32,7 +33,3 @@ listed_by m f xs e size E A = sym (listed_is f xs (polynomial_of m xs e size E) 
 module _ (f : List ℕ) (size : length f ≡ 256) (range : flaw (below 3329) f ≡ none) where
   pub polynomial_in : Polynomial 3328 f
   polynomial_in = record { size = size; small = λ j l. low_at 3329 f range j (omega arith) }
-
--- a layer's number that was accepted
-pub within : (s : ℕ) → (leb 1 s && leb s 7) ≡ true → (1 ≤ s) × (s ≤ 7)
-within s h = let both = and_parts (leb 1 s) (leb s 7) h in (leb-true 1 s both.0, leb-true s 7 both.1)

@@ -10,6 +10,8 @@ use engine::product::base_products;
 use engine::whole::{forward_layers, inverse_layers};
 use rings::Refusal;
 
+// The transform and its inverse each have a body of their own: they run another function of the engine and promise another law, and a shared
+// body that took the function as a closure would need a contract longer than both.
 /// Writes the transform of f (FIPS 203, Algorithm 9) into out. A refusal leaves out as it was.
 pub fn forward(f: &[u16], out: &mut [u16]) -> Result<(), Refusal>
     ensures answers { answer result ≡ ruling (transform_checks f.now out.old) }
@@ -56,12 +58,12 @@ pub fn layer(
     ensures writes { MatchResult result (λ _. Layered direction number incoming.now outgoing.now f.now out.new) (λ _. out.new ≡ out.old) }
 {
     may_transform(f, out)?;
-    may_mask(number, incoming, outgoing)?;
+    let masked = may_mask(number, incoming, outgoing)?;
     out.copy_from_slice(f);
     let ring = ml_kem_ring();
     match direction {
-        Direction::Forward => forward_layer(&ring, out, number, incoming, outgoing),
-        Direction::Inverse => inverse_layer(&ring, out, number, incoming, outgoing),
+        Direction::Forward => forward_layer(&ring, out, &masked),
+        Direction::Inverse => inverse_layer(&ring, out, &masked),
     }
     Ok(())
 }

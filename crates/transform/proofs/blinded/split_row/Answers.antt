@@ -8,5 +8,5 @@ loop-i-preserved g c =
     let out = c.loop-i.out in
     below_more _ _
     (λ k h. get_or-set_other out i k _ 0 (omega arith) ∙ c.loop-i.invariant k h)
-    (get_or-set_same out i _ 0 (omega arith) ∙ c.split-s.ensures.coefficient
+    (get_or-set_same out i _ 0 (omega arith) ∙ c.split.ensures.coefficient
     ∙ ap (λ (x : ℕ). x % 3329) (sym (held_at _ c.args.words.now i _ (omega arith) c.index-words-i.is)))
