@@ -1,5 +1,7 @@
 ghost use Rattle.std.specs.Prelude.{◌≡◌, ℕ, ◌+◌, ◌*◌, ◌<◌, length, slice_index};
-ghost use Rattle.decrypt.specs.Decryption.{bit_of, byte_at};
+ghost use Rattle.decryption.specs.Message.{bit_of, byte_at};
+
+use std::array;
 
 // The bit that a coefficient stands for.
 fn bit(x: u16) -> u8
@@ -22,9 +24,5 @@ fn byte(w: &[u16; 256], k: usize) -> u8
 pub fn message(w: &[u16; 256]) -> [u8; 32]
     ensures { (n : ℕ) → n < 32 → slice_index result n ≡ byte_at w.now (8 * n) }
 {
-    let mut bytes = [0u8; 32];
-    for n in 0..32 {
-        bytes[n] = byte(w, 8 * n);
-    }
-    bytes
+    array::from_fn(|n| byte(w, 8 * n))
 }

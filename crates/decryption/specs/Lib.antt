@@ -1,0 +1,3 @@
+pub mod Message
+pub mod Ranks
+pub mod Restored
