@@ -5,16 +5,6 @@ use Rattle.algebra.proofs.Remainders.{joined_below, joined_plain, joined_guard, 
 use Rattle.guarded.specs.ModuliLemmas.{known_above}
 use Rattle.guarded.proofs.redundant.arithmetic.RedundantGuardedRing.lift.Goals as goal
 
-pub overflow_add-result-2 : goal.overflow_add-result-2
-overflow_add-result-2 c =
-    let s = c.args.self.now in
-    let above : 3329 < s.check.p = known_above s.check.p s.check.known in
-    let x : ℕ = joined 3329 s.check.p s.check.inverse c.args.s c.args.c in
-    let low : x < 3329 * s.check.p = joined_below 3329 s.check.p s.check.inverse c.args.s c.args.c c.requires.coefficient (omega arith) in
-    let is : (c.args.s + 3329 * c.reduce_wide-part.result) + s.n * c.args.k ≡ x + 3329 * s.check.p * c.args.k =
-    ap (λ (y : ℕ). (c.args.s + 3329 * y) + s.n * c.args.k) c.reduce_wide-part.ensures ∙ ap (λ (y : ℕ). x + y * c.args.k) s.joint in
-    omega (arith, word_below (3329 * s.check.p) s.t x c.args.k low c.requires.number, s.fits)
-
 pub returns : goal.returns
 returns c =
     let s = c.args.self.now in
