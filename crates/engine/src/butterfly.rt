@@ -3,27 +3,25 @@ ghost use Rattle.algebra.specs.Masks.{MaskedForward, MaskedInverse};
 ghost use Rattle.engine.specs.Rows.{Elements, IsRow, PairWritten, GroupWritten};
 ghost use Rattle.engine.specs.Pairs.{forward_pair, inverse_pair};
 
-use crate::group::Group;
+use crate::group::{Group, PairMasks};
 use crate::masks::Masks;
 use rings::Ring;
 
-/// A masked forward butterfly: the words at i and j come under the masks e1 and e2, and go under e3.
+/// A masked forward butterfly: the words at i and j come under the masks of the words, and go under the own mask of the butterfly.
 pub(crate) fn forward_butterfly<R: Ring>(
     ring: &R,
     words: &mut [R::Word],
     i: usize,
     j: usize,
     z: u8,
-    e1: u8,
-    e2: u8,
-    e3: u8,
+    masks: PairMasks,
 )
     requires inside { (i < j) × (j < length words.old) }
     requires all { Elements (R.element ring.now) words.old }
-    ensures { PairWritten (R.element ring.now) (R.meaning ring.now) i j (MaskedForward 7 (pred (R.modulus ring.now)) (R.root ring.now) z e1 e2 e3) words.old words.new }
+    ensures { PairWritten (R.element ring.now) (R.meaning ring.now) i j (MaskedForward 7 (pred (R.modulus ring.now)) (R.root ring.now) z masks.low masks.high masks.own) words.old words.new }
 {
-    let u = ring.power(e3.wrapping_sub(e1));
-    let v = ring.power(z.wrapping_add(e3).wrapping_sub(e2));
+    let u = ring.power(masks.own.wrapping_sub(masks.low));
+    let v = ring.power(z.wrapping_add(masks.own).wrapping_sub(masks.high));
     let a = ring.product(u, words[i]);
     let b = ring.product(v, words[j]);
     words[i] = ring.sum(a, b);
@@ -31,25 +29,23 @@ pub(crate) fn forward_butterfly<R: Ring>(
 }
 
 // No instance of the forward one by a parameter: here the two products come after the sum and the difference, there before.
-/// A masked inverse butterfly: the words at i and j come under the mask e, and go under o1 and o2.
+/// A masked inverse butterfly: the words at i and j come under the own mask of the butterfly, and go under those of the words.
 pub(crate) fn inverse_butterfly<R: Ring>(
     ring: &R,
     words: &mut [R::Word],
     i: usize,
     j: usize,
     z: u8,
-    e: u8,
-    o1: u8,
-    o2: u8,
+    masks: PairMasks,
 )
     requires inside { (i < j) × (j < length words.old) }
     requires all { Elements (R.element ring.now) words.old }
-    ensures { PairWritten (R.element ring.now) (R.meaning ring.now) i j (MaskedInverse 7 (pred (R.modulus ring.now)) (R.root ring.now) 1 z e o1 o2) words.old words.new }
+    ensures { PairWritten (R.element ring.now) (R.meaning ring.now) i j (MaskedInverse 7 (pred (R.modulus ring.now)) (R.root ring.now) 1 z masks.own masks.low masks.high) words.old words.new }
 {
     let a = words[i];
     let b = words[j];
-    let u = ring.power(o1.wrapping_sub(e));
-    let v = ring.power(z.wrapping_add(o2).wrapping_sub(e));
+    let u = ring.power(masks.low.wrapping_sub(masks.own));
+    let v = ring.power(z.wrapping_add(masks.high).wrapping_sub(masks.own));
     let s = ring.sum(a, b);
     let d = ring.difference(b, a);
     words[i] = ring.product(u, s);
@@ -72,22 +68,10 @@ pub(crate) fn forward_group<R: Ring>(
     ensures { GroupWritten (R.element ring.now) (R.meaning ring.now) (group.index * (2 * group.len)) group.len group.len (forward_pair (pred (R.modulus ring.now)) (R.root ring.now) group.z group.len group.index before.now.bytes.now list.now.bytes.now) words.old words.new }
 {
     let base = group.base();
-    let own = group.own();
-    let wide = group.wide();
     for offset in 0..group.len {
-        let e1 = before.at(wide + offset);
-        let e2 = before.at(wide + (offset + group.len));
-        let e3 = list.at(own + offset);
-        forward_butterfly(
-            ring,
-            words,
-            base + offset,
-            base + offset + group.len,
-            group.z,
-            e1,
-            e2,
-            e3,
-        );
+        let low = base + offset;
+        let masks = group.masks(offset, list, before);
+        forward_butterfly(ring, words, low, low + group.len, group.z, masks);
     }
 }
 
@@ -103,21 +87,9 @@ pub(crate) fn inverse_group<R: Ring>(
     ensures { GroupWritten (R.element ring.now) (R.meaning ring.now) (group.index * (2 * group.len)) group.len group.len (inverse_pair (pred (R.modulus ring.now)) (R.root ring.now) group.z group.len group.index before.now.bytes.now list.now.bytes.now) words.old words.new }
 {
     let base = group.base();
-    let own = group.own();
-    let wide = group.wide();
     for offset in 0..group.len {
-        let e = before.at(own + offset);
-        let o1 = list.at(wide + offset);
-        let o2 = list.at(wide + (offset + group.len));
-        inverse_butterfly(
-            ring,
-            words,
-            base + offset,
-            base + offset + group.len,
-            group.z,
-            e,
-            o1,
-            o2,
-        );
+        let low = base + offset;
+        let masks = group.masks(offset, before, list);
+        inverse_butterfly(ring, words, low, low + group.len, group.z, masks);
     }
 }

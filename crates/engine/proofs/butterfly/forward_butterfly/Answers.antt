@@ -8,12 +8,12 @@ returns g c =
     let s = c.args.ring.now in
     let element = g.R.Ring.element s in
     let meaning = g.R.Ring.meaning s in
-    let h1 : c.args.e1 < 256 = omega arith in
-    let h2 : c.args.e2 < 256 = omega arith in
+    let h1 : c.args.masks.low < 256 = omega arith in
+    let h2 : c.args.masks.high < 256 = omega arith in
     pair_written element meaning c.args.i c.args.j _ c.args.words.now c.index-words-i.result c.index-words-j.result _ _
     c.requires.inside.0 c.requires.inside.1 c.requires.all c.sum.ensures.stays c.difference.ensures.stays
     c.index-words-i.is c.index-words-j.is
-    (forward_numbers _ _ c.args.z c.args.e1 c.args.e2 c.args.e3 _ _ _ _ _ _ _ _
+    (forward_numbers _ _ c.args.z c.args.masks.low c.args.masks.high c.args.masks.own _ _ _ _ _ _ _ _
     (g.met.R.Ring.below s _ (element_read element c.args.words.now c.args.i _ c.requires.all (omega arith) c.index-words-i.is))
     h1 h2 c.power-u.ensures.means c.power-v.ensures.means c.product-a.ensures.means c.product-b.ensures.means
     c.sum.ensures.means c.difference.ensures.means)

@@ -8,11 +8,11 @@ returns g c =
     let s = c.args.ring.now in
     let element = g.R.Ring.element s in
     let meaning = g.R.Ring.meaning s in
-    let h : c.args.e < 256 = omega arith in
+    let h : c.args.masks.own < 256 = omega arith in
     pair_written element meaning c.args.i c.args.j _ c.args.words.now c.index-words-i.result c.index-words-j.result _ _
     c.requires.inside.0 c.requires.inside.1 c.requires.all c.product.ensures.stays c.product-2.ensures.stays
     c.index-words-i.is c.index-words-j.is
-    (inverse_numbers _ _ c.args.z c.args.e c.args.o1 c.args.o2 _ _ _ _ _ _ _ _
+    (inverse_numbers _ _ c.args.z c.args.masks.own c.args.masks.low c.args.masks.high _ _ _ _ _ _ _ _
     (g.met.R.Ring.below s _ (element_read element c.args.words.now c.args.i _ c.requires.all (omega arith) c.index-words-i.is))
     h c.power-u.ensures.means c.power-v.ensures.means c.sum-s.ensures.means c.difference-d.ensures.means
     c.product.ensures.means c.product-2.ensures.means)

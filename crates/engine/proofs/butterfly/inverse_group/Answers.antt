@@ -6,4 +6,4 @@ use Rattle.engine.proofs.butterfly.inverse_group.Goals as goal
 pub loop-offset-preserved : goal.loop-offset-preserved
 loop-offset-preserved g c =
     group_more _ _ _ c.args.group.len c.loop-offset.offset _ _ _ _ (omega arith) c.loop-offset.invariant
-    (pair_as _ _ _ _ _ _ _ _ (λ a b a' b'. inverse_under _ _ _ _ _ _ _ _ _ _ a b a' b' refl (rw c.own-own.ensures at c.at-e.ensures) (rw c.wide-wide.ensures.number at c.at-o1.ensures) (rw c.wide-wide.ensures.number at c.at-o2.ensures)) (rw c.base-base.ensures at c.inverse_butterfly.ensures))
+    (pair_as _ _ _ _ _ _ _ _ (λ a b a' b'. inverse_under _ _ _ _ _ _ _ _ _ _ a b a' b' refl c.masks-masks.ensures.own c.masks-masks.ensures.low c.masks-masks.ensures.high) (rw c.base-base.ensures at c.inverse_butterfly.ensures))
