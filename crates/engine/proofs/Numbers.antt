@@ -1,5 +1,5 @@
 -- From the answers of the ring to the masked butterflies.
-use Rattle.std.proofs.Common.{◌≡◌, ℕ, zero, suc, pred, ◌+◌, ◌-◌, ◌*◌, ◌%◌, ◌^◌, ◌<◌, ◌≤◌, ap, ◌∙◌, subst, mod-lt, arith}
+use Rattle.std.proofs.Common.{◌≡◌, ℕ, zero, suc, pred, ◌+◌, ◌-◌, ◌*◌, ◌%◌, ◌^◌, ◌<◌, ◌≤◌, ap, ◌∙◌, mod-lt, arith}
 use Rattle.algebra.specs.Congruence.{Same}
 use Rattle.algebra.specs.Masks.{mask_difference, MaskedForward, MaskedInverse}
 use Rattle.algebra.proofs.Modular.{same_of, same_mod, same_sub, same_add, same_mul_left, same_mul_right, ◌⨾◌}
@@ -50,20 +50,12 @@ inverse_numbers (suc neg) w z e o1 o2 a b f1 f2 x y s t some h ef1 ef2 ex ey es 
 -- the same butterfly, its exponents written another way
 pub forward_under : (neg w z z' e1 e2 e3 d1 d2 d3 a b a' b' : ℕ) → z ≡ z' → e1 ≡ d1 → e2 ≡ d2 → e3 ≡ d3 →
     MaskedForward 7 neg w z e1 e2 e3 a b a' b' → MaskedForward 7 neg w z' d1 d2 d3 a b a' b'
-forward_under neg w z z' e1 e2 e3 d1 d2 d3 a b a' b' ez p q r m =
-    subst (λ (y : ℕ). MaskedForward 7 neg w y d1 d2 d3 a b a' b') ez
-    (subst (λ (d : ℕ). MaskedForward 7 neg w z d d2 d3 a b a' b') p
-    (subst (λ (d : ℕ). MaskedForward 7 neg w z e1 d d3 a b a' b') q
-    (subst (λ (d : ℕ). MaskedForward 7 neg w z e1 e2 d a b a' b') r m)))
+forward_under neg w z z' e1 e2 e3 d1 d2 d3 a b a' b' ez p q r m = rw (ez, p, q, r) at m
 
 pub inverse_under : (neg w z z' e o1 o2 d1 d2 d3 a b a' b' : ℕ) → z ≡ z' → e ≡ d1 → o1 ≡ d2 → o2 ≡ d3 →
     MaskedInverse 7 neg w 1 z e o1 o2 a b a' b' → MaskedInverse 7 neg w 1 z' d1 d2 d3 a b a' b'
-inverse_under neg w z z' e o1 o2 d1 d2 d3 a b a' b' ez p q r m =
-    subst (λ (y : ℕ). MaskedInverse 7 neg w 1 y d1 d2 d3 a b a' b') ez
-    (subst (λ (d : ℕ). MaskedInverse 7 neg w 1 z d d2 d3 a b a' b') p
-    (subst (λ (d : ℕ). MaskedInverse 7 neg w 1 z e d d3 a b a' b') q
-    (subst (λ (d : ℕ). MaskedInverse 7 neg w 1 z e o1 d a b a' b') r m)))
+inverse_under neg w z z' e o1 o2 d1 d2 d3 a b a' b' ez p q r m = rw (ez, p, q, r) at m
 
 -- and its factor
 pub with_factor : {neg w c c' z e o1 o2 a b a' b' : ℕ} → c ≡ c' → MaskedInverse 7 neg w c z e o1 o2 a b a' b' → MaskedInverse 7 neg w c' z e o1 o2 a b a' b'
-with_factor {neg} {w} {c} {c'} {z} {e} {o1} {o2} {a} {b} {a'} {b'} h m = subst (λ (k : ℕ). MaskedInverse 7 neg w k z e o1 o2 a b a' b') h m
+with_factor h m = rw h at m

@@ -53,10 +53,6 @@ module _ {W : Type 0} (element : W → Bool) (f : W → ℕ) where
       PairWritten element f i j Q ws ws' → PairWritten element f i j Q' ws ws'
   pair_as i j Q Q' ws ws' h c = record { size = c.size; all = c.all; others = c.others; here = h _ _ _ _ c.here }
 
-  pub group_none : (base len : ℕ) (Q : ℕ → ℕ → ℕ → ℕ → ℕ → Type 0) (ws : List W) → Elements element ws → GroupWritten element f base len 0 Q ws ws
-  group_none base len Q ws all =
-      record { size = refl; all = all; before = λ k h. refl; between = λ k h l. refl; after = λ k h. refl; here = λ o h. absurd (omega arith) }
-
   pub group_more : (base len n : ℕ) (Q : ℕ → ℕ → ℕ → ℕ → ℕ → Type 0) (ws ws₁ ws₂ : List W) → n < len →
       GroupWritten element f base len n Q ws ws₁ → PairWritten element f (base + n) (base + n + len) (Q n) ws₁ ws₂ → GroupWritten element f base len (n + 1) Q ws ws₂
   group_more base len n Q ws ws₁ ws₂ h t c = record {

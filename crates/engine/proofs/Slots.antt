@@ -1,5 +1,5 @@
 -- The products of the slots, one after the other.
-use Rattle.std.proofs.Common.{◌≡◌, ℕ, zero, suc, pred, ◌+◌, ◌*◌, ◌/◌, ◌%◌, ◌^◌, ◌<◌, ◌≤◌, Bool, true, ◌≢◌, List, length, get_or, set, refl, ap, ◌∙◌, mul-le-mul_right, arith, length-set, get_or-set_other, get_or-set_same}
+use Rattle.std.proofs.Common.{◌≡◌, ℕ, zero, suc, pred, ◌+◌, ◌*◌, ◌/◌, ◌%◌, ◌^◌, ◌<◌, ◌≤◌, Bool, true, ◌≢◌, List, length, get_or, set, ap, ◌∙◌, mul-le-mul_right, arith, length-set, get_or-set_other, get_or-set_same}
 use native.Mathlib.Decide.{dec_lt, ℕ_discrete}
 use Rattle.algebra.specs.Congruence.{Same}
 use Rattle.algebra.specs.Layers.{bitrev}
@@ -41,9 +41,6 @@ pub other_root : (neg c c' a b x y r s : ℕ) → Same neg c c' → SlotProduct 
 other_root neg c c' a b x y r s e t = record { first = t.first ⨾ same_add same_refl (same_mul_left (b * y) e); second = t.second }
 
 module _ {W : Type 0} (element : W → Bool) (f : W → ℕ) (m w : ℕ) (ls rs : ℕ → ℕ) where
-  pub slots_none : (ws : List W) → SlotsWritten element f (pred m) w ls rs 0 ws ws
-  slots_none ws = record { size = refl; all = λ k d h. absurd (omega arith); here = λ i h. absurd (omega arith) }
-
   pub slots_more : (n r : ℕ) (c x y : W) (a0 a1 b0 b1 : ℕ) (ws ws' : List W) → 2 * n + 1 < length ws → f c < m → r ≡ bitrev 7 n → f c ≡ (w ^ (2 * r + 1)) % m →
       a0 ≡ ls (2 * n) → a1 ≡ ls (2 * n + 1) → b0 ≡ rs (2 * n) → b1 ≡ rs (2 * n + 1) →
       SlotsWritten element f (pred m) w ls rs n ws ws' → element x ≡ true → element y ≡ true → SlotProduct (pred m) (f c) a0 a1 b0 b1 (f x) (f y) →

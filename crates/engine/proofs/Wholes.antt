@@ -1,5 +1,5 @@
 -- All seven layers with no mask.
-use Rattle.std.proofs.Common.{◌≡◌, ℕ, ◌+◌, ◌-◌, Bool, true, false, ◌||◌, eqb, List, sym, refl, subst, arith}
+use Rattle.std.proofs.Common.{◌≡◌, ℕ, ◌+◌, ◌-◌, Bool, true, false, ◌||◌, eqb, List, refl, subst, arith}
 use native.Mathlib.Nat.{pow-zero}
 use Rattle.algebra.specs.declared.Direction.TheVariants.{Forward, Inverse}
 use Rattle.algebra.specs.Layers.{layers, inv_stage, ntt, inv_ntt}
@@ -39,19 +39,13 @@ module _ (neg w : ℕ) (f : ℕ → ℕ) where
 
   -- one layer more, under lists that are these
   module _ (s : ℕ) (before list : List ℕ) (eb : before ≡ unmasked_list (s - 1)) (el : list ≡ unmasked_list s) (h h' : ℕ → ℕ) where
-    next : s ≡ s + 1 - 1
+    next : s + 1 - 1 ≡ s
     next = omega arith
 
     pub forward_more : WentForward neg w s before list h h' → Holds neg w (mask_after 7 Forward (s - 1) (unmasked_list (s - 1))) (layers 7 neg w (s - 1) f) h →
         Holds neg w (mask_after 7 Forward (s + 1 - 1) (unmasked_list (s + 1 - 1))) (layers 7 neg w (s + 1 - 1) f) h'
-    forward_more W H =
-        subst (λ (q : ℕ). Holds neg w (mask_after 7 Forward q (unmasked_list q)) (layers 7 neg w q f) h') next
-        (subst (λ (ms : List ℕ). Holds neg w (mask_after 7 Forward s ms) (layers 7 neg w s f) h') el
-        (W.step f (subst (λ (ms : List ℕ). Holds neg w (mask_after 7 Forward (s - 1) ms) (layers 7 neg w (s - 1) f) h) (sym eb) H)))
+    forward_more W H = rw next (rw el at (W.step f (rw eb H)))
 
     pub inverse_more : (i : ℕ) → WentBack neg w i s before list h h' → Holds neg w (mask_after 7 Inverse (s - 1) (unmasked_list (s - 1))) (inv_stage 7 neg w i (s - 1) f) h →
         Holds neg w (mask_after 7 Inverse (s + 1 - 1) (unmasked_list (s + 1 - 1))) (inv_stage 7 neg w i (s + 1 - 1) f) h'
-    inverse_more i W H =
-        subst (λ (q : ℕ). Holds neg w (mask_after 7 Inverse q (unmasked_list q)) (inv_stage 7 neg w i q f) h') next
-        (subst (λ (ms : List ℕ). Holds neg w (mask_after 7 Inverse s ms) (inv_stage 7 neg w i s f) h') el
-        (W.step f (subst (λ (ms : List ℕ). Holds neg w (mask_after 7 Inverse (s - 1) ms) (inv_stage 7 neg w i (s - 1) f) h) (sym eb) H)))
+    inverse_more i W H = rw next (rw el at (W.step f (rw eb H)))

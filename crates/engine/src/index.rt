@@ -43,10 +43,11 @@ impl Layer {
         ensures half { result.len ≡ forward_len self.number }
         ensures factor { result.z ≡ forward_exponent 7 self.number index }
     {
+        let count = self.forward_count();
         Group {
             index,
             len: self.forward_half(),
-            z: reversed((self.forward_count() + index) as u8),
+            z: reversed((count + index) as u8),
         }
     }
 
@@ -71,10 +72,11 @@ impl Layer {
         ensures half { result.len ≡ inverse_len 7 self.number }
         ensures factor { result.z ≡ inverse_exponent 7 self.number index }
     {
+        let count = self.inverse_count();
         Group {
             index,
             len: self.inverse_half(),
-            z: reversed((2 * self.inverse_count() - 1 - index) as u8),
+            z: reversed((2 * count - 1 - index) as u8),
         }
     }
 }

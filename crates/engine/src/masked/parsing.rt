@@ -9,7 +9,7 @@ impl TryFrom<u8> for Layer {
     ghost try_from_gives = { Numbers };
 
     fn try_from(number: u8) -> Result<Layer, Refusal> {
-        if 1 <= number && number <= 7 {
+        if (1..=7).contains(&number) {
             Ok(Layer { number })
         } else {
             Err(Refusal::Layer)

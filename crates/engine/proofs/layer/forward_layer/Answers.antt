@@ -1,7 +1,6 @@
 use Rattle.std.proofs.Common.{pred, ◌-◌, ◌≡◌, arith}
 use Rattle.engine.specs.Pairs.{forward_pair}
 use Rattle.algebra.specs.Layers.{forward_groups, forward_exponent}
-use Rattle.engine.proofs.Rows.{layer_none}
 use Rattle.engine.proofs.Carrying.{suits_new}
 use Rattle.engine.proofs.Layering.{next_group, went_forward}
 use Rattle.engine.proofs.layer.forward_layer.Goals as goal
@@ -11,9 +10,6 @@ new-came-requires g c = suits_new (c.args.masked.now.layer.number - 1) _ c.args.
 
 pub new-goes-requires : goal.new-goes-requires
 new-goes-requires g c = suits_new c.args.masked.now.layer.number _ c.args.masked.now.goes
-
-pub loop-index-init : goal.loop-index-init
-loop-index-init g c = layer_none _ _ _ _ _ c.requires.all
 
 pub loop-index-preserved : goal.loop-index-preserved
 loop-index-preserved g c =

@@ -1,9 +1,6 @@
 use Rattle.std.proofs.Common.{arith}
-use Rattle.engine.proofs.Scaling.{multiplied_none, multiplied_more, scaled_by}
+use Rattle.engine.proofs.Scaling.{multiplied_more, scaled_by}
 use Rattle.engine.proofs.layer.scale.Goals as goal
-
-pub loop-word-init : goal.loop-word-init
-loop-word-init g c = multiplied_none _ _ (g.R.Ring.modulus c.args.ring.now) _ _ c.requires.all
 
 pub loop-word-preserved : goal.loop-word-preserved
 loop-word-preserved g c =
