@@ -17,6 +17,9 @@ use histories::Index;
 use rings::Refusal;
 use rings::checks::{digits, in_range, sized};
 
+// Each check stands in the order of the refusals' numbers, as `Calls.rules` lists them. What two checks begin with is not split off:
+// a helper for two lines would hide a part of that order.
+
 // A witness that has to be from 1 to p - 1.
 fn witness(c: u32, p: u32) -> Result<(), Refusal>
     ensures { complaint result ≡ first (test (nat_lt 0 c && nat_lt c p) refuse.Witness ∷ []) }
@@ -26,6 +29,9 @@ fn witness(c: u32, p: u32) -> Result<(), Refusal>
     }
     Ok(())
 }
+
+// The arguments are those of the workspace's call, in its order: a struct of them would be built by the one caller and taken apart
+// here, which is no plainer.
 
 /// What a load is refused for; else its register.
 pub fn check_load(

@@ -26,8 +26,7 @@ pub fn loaded_form(kind: Kind) -> Form
     Form::from(kind)
 }
 
-// The sum, the difference and the product of two numbers modulo p.
-
+// The sum of two numbers modulo p.
 fn sum(p: u32, c: u32, d: u32) -> u32
     requires { 0 < p }
     ensures { result ≡ (c + d) % p }
@@ -35,6 +34,7 @@ fn sum(p: u32, c: u32, d: u32) -> u32
     ((c as u64 + d as u64) % p as u64) as u32
 }
 
+// The difference of two numbers modulo p.
 fn difference(p: u32, c: u32, d: u32) -> u32
     requires { 0 < p }
     ensures { result ≡ (c + (p - d)) % p }
@@ -42,6 +42,7 @@ fn difference(p: u32, c: u32, d: u32) -> u32
     ((c as u64 + p.saturating_sub(d) as u64) % p as u64) as u32
 }
 
+// The product of two numbers modulo p.
 fn product(p: u32, c: u32, d: u32) -> u32
     requires { 0 < p }
     ensures { result ≡ (c * d) % p }
