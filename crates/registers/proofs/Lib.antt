@@ -1,5 +1,6 @@
 pub mod Rows
 pub mod Reading
+pub mod Found
 pub mod Lists
 pub mod Meanings
 pub mod Lifting

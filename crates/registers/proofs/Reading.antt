@@ -1,10 +1,12 @@
 -- The words of a register, tested one after another, and read while others are written.
-use Rattle.std.proofs.Common.{◌≡◌, ℕ, suc, ◌+◌, ◌*◌, ◌<◌, ◌≤◌, Bool, true, false, List, [], ◌∷◌, length, get_or, sym, refl, ap, ◌∙◌, inl, inr, ⊎_elim, arith}
+use Rattle.std.proofs.Common.{◌≡◌, ℕ, suc, ◌+◌, ◌*◌, ◌<◌, ◌≤◌, Bool, true, false, min, List, [], ◌∷◌, length, get_or, sym, refl, ap, ◌∙◌, inl, inr, ⊎_elim, arith}
 use mathlib.Core.Option.{none, some}
+use Rattle.std.specs.List.{zip}
+use Rattle.std.proofs.lemmas.Slice.Zip.{length-zip, get_or-zip}
 use Rattle.std.proofs.lemmas.List.{get_or_default}
 use Rattle.std.proofs.lemmas.Bool.{cases_lt}
 use Rattle.rings.specs.Refusals.{flaw}
-use Rattle.rings.proofs.Flaws.{flaw_at, at_none}
+use Rattle.rings.proofs.Flaws.{at_none}
 use Rattle.histories.specs.Calls.{part}
 use Rattle.histories.proofs.Basics.{part_size}
 use Rattle.registers.proofs.Rows.{Filled, part_at}
@@ -14,17 +16,15 @@ pub no_flaw : {A : Type 0} (t : A → Bool) (xs : List A) → ((k : ℕ) (d : A)
 no_flaw t [] b = refl
 no_flaw t (x ∷ xs) b = rw (b 0 x (omega arith), no_flaw t xs (λ k d l. b (suc k) d (omega arith)))
 
+-- a word at its place beside a number, where all words are elements
+pub pair_sound : {W : Type 0} (t : W → Bool) (xs : List W) (ys : List ℕ) (k : ℕ) (p : W × ℕ) → flaw t xs ≡ none → k < length (zip xs ys) →
+    p ≡ get_or (zip xs ys) k p → t p.0 ≡ true
+pair_sound t xs ys k p h l e =
+    let short : k < min (length xs) (length ys) = rw length-zip at l in
+    let at : k < length xs = omega arith in
+    ap (λ q. t q.0) (e ∙ get_or-zip xs ys k p at (omega arith)) ∙ at_none t xs h k p.0 at
+
 module _ {W : Type 0} (t : W → Bool) (ws : List W) (r : ℕ) (size : length ws ≡ 2048) (known : r < 8) where
-  -- the word at i is the first that fails
-  pub stray_at : (i : ℕ) (x : W) → i < 256 → x ≡ get_or ws (256 * r + i) x →
-      ((k : ℕ) (d : W) → k < i → t (get_or ws (256 * r + k) d) ≡ true) → t x ≡ false → flaw t (part ws r) ≡ some i
-  stray_at i x h e b f =
-      flaw_at t (part ws r) i x (omega (arith, part_size ws size r known)) (λ k l. ap t (part_at ws r k x (omega arith)) ∙ b k x l)
-      (ap t (part_at ws r i x h ∙ sym e) ∙ f)
-
-  pub all_sound : ((k : ℕ) (d : W) → k < 256 → t (get_or ws (256 * r + k) d) ≡ true) → flaw t (part ws r) ≡ none
-  all_sound b = no_flaw t (part ws r) (λ k d l. let s : k < 256 = omega (arith, part_size ws size r known) in ap t (part_at ws r k d s) ∙ b k d s)
-
   pub sound_at : flaw t (part ws r) ≡ none → (k : ℕ) (d : W) → k < 256 → t (get_or ws (256 * r + k) d) ≡ true
   sound_at h k d l = ap t (sym (part_at ws r k d l)) ∙ at_none t (part ws r) h k d (omega (arith, part_size ws size r known))
 

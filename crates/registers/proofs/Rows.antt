@@ -1,5 +1,6 @@
 -- Words written one after another, and the registers' words among all words.
-use Rattle.std.proofs.Common.{◌≡◌, ℕ, ◌+◌, ◌*◌, ◌<◌, ◌≤◌, false, eqb, ◌≢◌, ◌⊎◌, List, length, get_or, drop, set, sym, refl, ◌∙◌, subst, inl, inr, ⊎_elim, arith, length-drop, length-take}
+use Rattle.std.proofs.Common.{◌≡◌, ℕ, ◌+◌, ◌*◌, ◌<◌, ◌≤◌, false, eqb, ◌≢◌, ◌⊎◌, List, length, get_or, drop, set, sym, refl, ◌∙◌, subst, inl, inr, ⊎_elim, arith, length-drop, length-take, ap, take, ◌-◌}
+use borrow.Rule.Slice.PartMut.{mid_of}
 use Rattle.std.proofs.lemmas.List.{length-set, get_or-set_same, get_or-set_other, get_or-take, get_or-drop, same_lists}
 use Rattle.std.proofs.lemmas.Bool.{cases_lt, cases_order, eqb-false}
 use Rattle.histories.specs.Calls.{part}
@@ -68,3 +69,11 @@ only_filled d P ws ws' f = only_by d ws ws' f.size f.others
 -- what was written, among the register's own words
 pub part_within : {W : Type 0} (r : ℕ) (P : ℕ → W → Type 0) (ws ws' : List W) → Filled (256 * r) 256 P ws ws' → (k : ℕ) (d : W) → k < 256 → P k (get_or (part ws' r) k d)
 part_within r P ws ws' f k d h = subst (P k) (sym (part_at ws' r k d h)) (f.within k d h)
+
+pub width : (a : ℕ) → a + 256 - a ≡ 256
+width a = omega arith
+
+-- the part of register r, as the code lends it
+pub lent_part : {W : Type 0} (ws : List W) (r : ℕ) → mid_of (256 * r) (256 * r + 256 - 256 * r) ws ≡ part ws r
+unfolding part
+lent_part ws r = ap (λ (n : ℕ). take n (drop (256 * r) ws)) (width (256 * r))

@@ -23,16 +23,8 @@ use Rattle.histories.specs.Calls.{part, meanings}
 use Rattle.histories.specs.Serves.{Meaning}
 use Rattle.histories.proofs.Whole.{unit_of, full_odd}
 use Rattle.registers.specs.Rows.{Only}
-use Rattle.registers.proofs.Rows.{only_by}
+use Rattle.registers.proofs.Rows.{only_by, width, lent_part}
 use Rattle.registers.proofs.Meanings.{meaning_by}
-
-pub width : (a : ℕ) → a + 256 - a ≡ 256
-width a = omega arith
-
--- the part of register r, as the code lends it
-pub lent_part : {W : Type 0} (ws : List W) (r : ℕ) → mid_of (256 * r) (256 * r + 256 - 256 * r) ws ≡ part ws r
-unfolding part
-lent_part ws r = ap (λ (n : ℕ). take n (drop (256 * r) ws)) (width (256 * r))
 
 pub lent_size : {W : Type 0} (ws : List W) (r : ℕ) → length ws ≡ 2048 → r < 8 → length (mid_of (256 * r) (256 * r + 256 - 256 * r) ws) ≡ 256
 lent_size ws r size known = simp (length-take, length-drop) (omega arith)

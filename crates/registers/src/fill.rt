@@ -55,8 +55,8 @@ pub fn wipe<G: GuardedRing>(ring: &G, words: &mut [G::Word])
     ensures { Wiped (model G.GuardedRing ring.now) words.new }
 {
     let zero = ring.lift(0, 0, 0);
-    let n = words.len();
-    for k in 0..n {
-        words[k] = zero;
+    // `fill` asks that a clone cannot fail, and a word is known to be `Copy` alone.
+    for word in words.iter_mut() {
+        *word = zero;
     }
 }

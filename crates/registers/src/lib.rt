@@ -4,6 +4,7 @@ pub mod compare;
 pub mod fill;
 pub mod join;
 pub mod product;
+mod row;
 pub mod turn;
 
 pub use compare::{hand_out, residues_agree, test_register};

@@ -1,18 +1,14 @@
-use Rattle.std.proofs.Common.{sym, arith}
-use Rattle.registers.proofs.Reading.{read_sound}
-use Rattle.registers.proofs.Lists.{written_more, rest_of}
+use Rattle.std.proofs.Common.{◌%◌, sym, ap, ◌∙◌, arith}
+use Rattle.rings.proofs.Flaws.{at_none}
+use Rattle.registers.proofs.Lists.{map_map_at}
 use Rattle.registers.proofs.compare.hand_out.Goals as goal
 
 pub split-s-requires : goal.split-s-requires
 split-s-requires g c =
-    read_sound _ _ _ c.requires.size c.args.r.known c.requires.tested c.loop-k.k _ c.loop-k-test.true c.index-words-base.is
-
-pub loop-k-preserved : goal.loop-k-preserved
-loop-k-preserved g c =
-    written_more 3329 (g.G.Ring.meaning c.args.ring.now) c.args.words.now c.args.r.number c.requires.size c.args.r.known
-    c.loop-k.k c.loop-k.out _ _ c.loop-k-test.true (omega arith) c.index-words-base.is c.split-s.ensures.coefficient c.loop-k.invariant
+    let element = g.G.Ring.element c.args.ring.now in
+    ap element c.w-item.is ∙ at_none element c.row-w-items.result.now (rw c.row-w-items.ensures.words c.requires.tested) c.loop-k.k _ c.loop-k-test.true
 
 pub returns : goal.returns
 returns g c =
-    sym (rest_of 3329 (g.G.Ring.meaning c.args.ring.now) c.args.words.now c.args.r.number c.requires.size c.args.r.known
-    c.loop-k.out (omega arith) (λ j d h. c.loop-k.invariant j d (omega arith)))
+    sym (rw (← c.row-w-items.ensures.words)
+    (map_map_at (λ y. y % 3329) (g.G.Ring.meaning c.args.ring.now) c.row-w-items.result.now c.loop-k.out (omega arith) (λ j d h. sym (c.loop-k.invariant j d (omega arith)))))

@@ -1,19 +1,24 @@
-use Rattle.std.proofs.Common.{◌∙◌, arith}
-use Rattle.registers.proofs.Reading.{read_sound}
-use Rattle.registers.proofs.Lists.{fault_at, no_fault}
+use Rattle.std.proofs.Common.{refl, arith}
+use Rattle.registers.proofs.Found.{differ_found}
 use Rattle.registers.proofs.compare.residues_agree.Goals as goal
 
-pub split-c-requires : goal.split-c-requires
-split-c-requires g c =
-    read_sound _ _ _ c.requires.size c.args.r.known c.requires.tested c.loop-k.k _ c.loop-k-test.true c.index-words-base.is
+pub first_fault-requires : goal.first_fault-requires
+first_fault-requires g c = rw c.row.ensures.words c.requires.tested
 
-pub returns-then-c-numbers : goal.returns-then-c-numbers
-returns-then-c-numbers g c =
-    rw (fault_at (g.G.GuardedRing.check c.args.ring.now) (g.G.Ring.meaning c.args.ring.now) c.args.words.now c.args.r.number
-    c.requires.size c.args.r.known c.args.numbers.now c.loop-k.k _ c.requires.numbers c.loop-k-test.true c.index-words-base.is
-    c.loop-k.invariant (λ e. c.if-c-numbers.true (c.split-c.ensures.check ∙ e)))
+pub returns-in-Some : goal.returns-in-Some
+returns-in-Some g c =
+    rw (
+      ← c.row.ensures.words,
+      differ_found (g.G.GuardedRing.check c.args.ring.now) (g.G.Ring.meaning c.args.ring.now) c.row.result.now c.args.numbers.now (omega arith),
+      ← c.first_fault.ensures.found,
+      c.in-Some.is,
+    ) refl
 
-pub returns : goal.returns
-returns g c =
-    rw (no_fault (g.G.GuardedRing.check c.args.ring.now) (g.G.Ring.meaning c.args.ring.now) c.args.words.now c.args.r.number
-    c.requires.size c.args.r.known c.args.numbers.now c.requires.numbers (λ j d h. c.loop-k.invariant j d (omega arith)))
+pub returns-in-None : goal.returns-in-None
+returns-in-None g c =
+    rw (
+      ← c.row.ensures.words,
+      differ_found (g.G.GuardedRing.check c.args.ring.now) (g.G.Ring.meaning c.args.ring.now) c.row.result.now c.args.numbers.now (omega arith),
+      ← c.first_fault.ensures.found,
+      c.in-None.is,
+    ) refl
