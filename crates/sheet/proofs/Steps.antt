@@ -1,5 +1,5 @@
 -- The steps of a reader, and what it has read at its end.
-use Rattle.std.proofs.Common.{◌≡◌, ℕ, zero, suc, ◌+◌, ◌<◌, ◌⊎◌, List, length, take, Some, None, sym, refl, ap, ◌∙◌, subst, add-one, arith, take_all, take-add, below_none, below_more}
+use Rattle.std.proofs.Common.{◌≡◌, ℕ, zero, suc, ◌+◌, ◌<◌, ◌⊎◌, List, length, take, Some, sym, refl, ap, ◌∙◌, subst, add-one, arith, take_all, take-add, below_none, below_more}
 use mathlib.Core.Option.{none, some}
 use Rattle.rings.specs.declared.refusal.Refusal.{Refusal}
 use Rattle.sheet.specs.declared.field.Field.{Field}
@@ -7,7 +7,7 @@ use Rattle.sheet.specs.Bytes.{part}
 use Rattle.sheet.specs.Flaws.{size_at, after, flaw_at}
 use Rattle.sheet.specs.Reads.{width, Reads}
 use Rattle.sheet.specs.Written.{written}
-use Rattle.sheet.specs.Tiles.{offset, laid, Tile, Reached, Tiled, Covers}
+use Rattle.sheet.specs.Tiles.{offset, laid, Tile, Reached, Tiled}
 use Rattle.sheet.proofs.Spelling.{Bytes, spelled}
 
 -- a field that was read ends where its header says
@@ -45,14 +45,9 @@ lies sheet zero = refl
 lies sheet (suc n) =
     rw (lies sheet n) (sym (take-add (offset sheet n) (3 + size_at sheet (offset sheet n)) sheet) ∙ ap (λ k. take k sheet) (omega arith))
 
-pub whole : (sheet : List ℕ) (n at : ℕ) → 0 < length sheet → Reached sheet n at → at ≡ length sheet → Tiled sheet n None × Covers sheet n None
-whole sheet n at o h e =
-    let p = h.place in (
-      record { tiles = h.tiles; ends = (omega (arith, p), omega (arith, p)) },
-      lies sheet n ∙ take_all (offset sheet n) sheet (omega (arith, p)),
-    )
+-- a reader at the sheet's end has read all of it
+pub whole : (sheet : List ℕ) (n at : ℕ) → Reached sheet n at → at ≡ length sheet → laid sheet n ≡ sheet
+whole sheet n at h e = let p = h.place in lies sheet n ∙ take_all (offset sheet n) sheet (omega (arith, p))
 
-pub stopped : (sheet : List ℕ) (n at : ℕ) (e : Refusal) → Reached sheet n at → (at ≡ 0) ⊎ (at < length sheet) → flaw_at sheet at ≡ some e
-    → Tiled sheet n (Some e) × Covers sheet n (Some e)
-stopped sheet n at e h d f =
-    (record { tiles = h.tiles; ends = subst (λ m. ((m ≡ 0) ⊎ (m < length sheet)) × (flaw_at sheet m ≡ some e)) h.place (d, f) }, lies sheet n)
+pub stopped : (sheet : List ℕ) (n at : ℕ) (e : Refusal) → Reached sheet n at → (at ≡ 0) ⊎ (at < length sheet) → flaw_at sheet at ≡ some e → Tiled sheet n (Some e)
+stopped sheet n at e h d f = record { tiles = h.tiles; ends = subst (λ m. ((m ≡ 0) ⊎ (m < length sheet)) × (flaw_at sheet m ≡ some e)) h.place (d, f) }

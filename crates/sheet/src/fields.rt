@@ -29,6 +29,7 @@ impl<'a> Fields<'a> {
         Ok(Fields { sheet, at: 0 })
     }
 
+    // No Iterator: at a refusal the reader stays, so as an iterator it has no end, and a `while let` over one without an end is not proved.
     /// The next field, or why it is refused; at a refusal the reader stays. None at the sheet's end.
     pub fn next(&mut self) -> Option<Result<Placed<'a>, Refusal>>
         ensures sheet { self.new.sheet ≡ self.old.sheet }

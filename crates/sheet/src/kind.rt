@@ -24,6 +24,7 @@ pub enum Kind {
 }
 
 impl Kind {
+    // An Option and no TryFrom: a refusal names the tag's offset, which is not known here, so an error would say no more than None.
     /// The kind that a tag letter names.
     pub fn named(tag: u8) -> Option<Kind>
         ensures kind { result ≡ kind_of tag }

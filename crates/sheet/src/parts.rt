@@ -15,7 +15,7 @@ pub struct Load<'a> {
 impl<'a> Load<'a> {
     ghost use Rattle.sheet.specs.Reads.{Loaded};
 
-    // That of a field's content.
+    /// The load that a content spells.
     pub(crate) fn read(content: &'a [u8]) -> Load<'a>
         requires { length content.now ≡ 771 }
         ensures { Loaded content.now 0 result.register result.c result.coefficients.now result.bytes.now }
@@ -29,7 +29,7 @@ impl<'a> Load<'a> {
     }
 }
 
-/// A layer: a register, and 0 to 128 masks.
+/// A register, and 0 to 128 masks for a layer of it.
 #[derive(Clone, Copy)]
 pub struct Layer<'a> {
     pub register: u8,
@@ -39,7 +39,7 @@ pub struct Layer<'a> {
 impl<'a> Layer<'a> {
     ghost use Rattle.sheet.specs.Reads.{Masked};
 
-    // That of a field's content.
+    /// The layer that a content spells.
     pub(crate) fn read(content: &'a [u8]) -> Layer<'a>
         requires some { 1 ≤ length content.now }
         requires few { length content.now ≤ 129 }
@@ -53,7 +53,7 @@ impl<'a> Layer<'a> {
     }
 }
 
-/// The registers of a sum, difference or product: d is that of a and b.
+/// The registers of a sum, difference or product: d takes that of a and b.
 #[derive(Clone, Copy)]
 pub struct Operands {
     pub d: u8,
@@ -64,7 +64,7 @@ pub struct Operands {
 impl Operands {
     ghost use Rattle.sheet.specs.Reads.{Three};
 
-    // Those of a field's content.
+    /// The registers that a content spells.
     pub(crate) fn read(content: &[u8]) -> Operands
         requires { length content.now ≡ 3 }
         ensures { Three content.now 0 result.d result.a result.b }

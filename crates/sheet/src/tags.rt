@@ -1,3 +1,4 @@
+// Names for bytes: a letter is matched as a pattern, in which an enum's `Kind::Pair as u8` may not stand.
 /// The letters of the fields.
 pub const REDUNDANT: u8 = b'P';
 

@@ -11,7 +11,7 @@ use crate::limits::{HEADER, SHEET};
 use rings::Refusal;
 
 impl<'a> Header<'a> {
-    /// That of the field at an offset, or the field's first flaw.
+    /// The header of the field at an offset, or the field's first flaw.
     pub(crate) fn read(sheet: &'a [u8], at: u16) -> Result<Header<'a>, Refusal>
         ensures headed { MatchResult result (λ h. Headed sheet.now at h.kind (length h.content.now)) (λ e. flaw_at sheet.now at ≡ some e) }
         ensures content { IfOk result (λ h. Part sheet.now (at + 3) (length h.content.now) h.content.now) }

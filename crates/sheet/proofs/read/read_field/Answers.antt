@@ -25,8 +25,7 @@ returns c =
     let spelt = spelled sheet (λ i. (c.type_inv.sheet i).fits) at next field read in
     record { field = search rules; written = spelt; heard = same sheet at next field read spelt }
 
-pub returns-in_err-header : goal.returns-in_err-header
-returns-in_err-header c =
+pub returns-in_err-header-clause-heard : goal.returns-in_err-header-clause-heard
+returns-in_err-header-clause-heard c =
     let p = err_from_is_err_and c.from_residual.result c.from_residual.ensures.1 in
-    let flaw = c.in_err-header.ensures.headed in
-    rw (p.1, p.2) (record { field = flaw; written = tt; heard = never_refused c.args.sheet.now c.args.at c.in_err-header.field-0.0 flaw })
+    rw p.1 (never_refused c.args.sheet.now c.args.at c.in_err-header.field-0.0 c.in_err-header.ensures.headed)

@@ -1,15 +1,20 @@
-use Rattle.std.proofs.Common.{Some, None, Ok, Err, refl, subst, inl, inr, arith}
+use Rattle.std.proofs.Common.{Some, None, Ok, refl, subst, inl}
 use Rattle.sheet.specs.Tiles.{Next}
 use Rattle.sheet.proofs.Opening.{first_flaw, not_empty}
-use Rattle.sheet.proofs.Steps.{at_start, a_field_on, whole, stopped}
+use Rattle.sheet.proofs.Steps.{at_start, a_field_on, lies, whole, stopped}
 use Rattle.sheet.proofs.Unique.{one_tiling}
 use Rattle.sheet.proofs.tiling.survey.Goals as goal
 
-pub returns-in-Err : goal.returns-in-Err
-returns-in-Err c =
+pub returns-in-Err-clause-tiled : goal.returns-in-Err-clause-tiled
+returns-in-Err-clause-tiled c =
     let sheet = c.args.sheet.now in
-    let h = stopped sheet 0 0 c.in-Err.refusal (at_start sheet) (inl refl) (first_flaw sheet c.in-Err.refusal c.in-Err.ensures) in
-    record { tiled = h.0; covers = h.1; one = one_tiling sheet }
+    stopped sheet 0 0 c.in-Err.refusal (at_start sheet) (inl refl) (first_flaw sheet c.in-Err.refusal c.in-Err.ensures)
+
+pub returns-in-Err-clause-covers : goal.returns-in-Err-clause-covers
+returns-in-Err-clause-covers c = lies c.args.sheet.now 0
+
+pub returns-in-Err-clause-one : goal.returns-in-Err-clause-one
+returns-in-Err-clause-one c = one_tiling c.args.sheet.now
 
 pub loop-step-init : goal.loop-step-init
 loop-step-init c =
@@ -25,20 +30,16 @@ loop-step-preserved c =
     let step = subst (λ x. Next x fields.at (Some (Ok read)) next) c.loop-step.invariant.0 (rw c.in-Ok-step.is at c.in-Some.ensures.step) in
     (rw c.next.ensures.sheet c.loop-step.invariant.0, a_field_on sheet (λ i. (c.type_inv.sheet i).fits) c.loop-step.fields fields.at next read.field c.loop-step.invariant.1 step.1 step.3, c.loop-step.invariant.2)
 
-pub returns-in-Err-step : goal.returns-in-Err-step
-returns-in-Err-step c =
-    let sheet = c.args.sheet.now in
-    let at = c.loop-step.reader.at in
-    let e = c.in-Err-step.refusal in
-    let step = subst (λ x. Next x at (Some (Err e)) c.next.new.self.at) c.loop-step.invariant.0 (rw c.in-Err-step.is at c.in-Some.ensures.step) in
-    let within = c.loop-step.invariant.1.within in
-    let h = stopped sheet c.loop-step.fields at e c.loop-step.invariant.1 (inr (omega (arith, within, step.0))) step.1 in
-    record { tiled = h.0; covers = h.1; one = one_tiling sheet }
+pub returns-in-Err-step-clause-covers : goal.returns-in-Err-step-clause-covers
+returns-in-Err-step-clause-covers c = lies c.args.sheet.now c.loop-step.fields
 
-pub returns : goal.returns
-returns c =
-    let sheet = c.args.sheet.now in
-    let at = c.loop-step.reader.at in
-    let step = subst (λ x. Next x at None c.next.new.self.at) c.loop-step.invariant.0 c.in_default.ensures.step in
-    let h = whole sheet c.loop-step.fields at c.loop-step.invariant.2 c.loop-step.invariant.1 step.0 in
-    record { tiled = h.0; covers = h.1; one = one_tiling sheet }
+pub returns-in-Err-step-clause-one : goal.returns-in-Err-step-clause-one
+returns-in-Err-step-clause-one c = one_tiling c.args.sheet.now
+
+pub returns-clause-covers : goal.returns-clause-covers
+returns-clause-covers c =
+    let step = subst (λ x. Next x c.loop-step.reader.at None c.next.new.self.at) c.loop-step.invariant.0 c.in_default.ensures.step in
+    whole c.args.sheet.now c.loop-step.fields c.loop-step.reader.at c.loop-step.invariant.1 step.0
+
+pub returns-clause-one : goal.returns-clause-one
+returns-clause-one c = one_tiling c.args.sheet.now
