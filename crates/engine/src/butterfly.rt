@@ -1,4 +1,4 @@
-ghost use Rattle.std.specs.Prelude.{◌≡◌, pred, ◌+◌, ◌*◌, ◌<◌, ◌≤◌, length};
+ghost use Rattle.std.specs.Prelude.{◌≡◌, pred, ◌*◌, ◌<◌, length};
 ghost use Rattle.algebra.specs.Masks.{MaskedForward, MaskedInverse};
 ghost use Rattle.engine.specs.Rows.{Elements, IsRow, PairWritten, GroupWritten};
 ghost use Rattle.engine.specs.Pairs.{forward_pair, inverse_pair};
@@ -6,6 +6,9 @@ ghost use Rattle.engine.specs.Pairs.{forward_pair, inverse_pair};
 use crate::group::{Group, PairMasks};
 use crate::masks::Masks;
 use rings::Ring;
+
+// The ring and its words stay two parameters here and in the layers: a struct that holds a `&mut` beside a ghost field on what it points to is
+// not covered by the borrow checker.
 
 /// A masked forward butterfly: the words at i and j come under the masks of the words, and go under the own mask of the butterfly.
 pub(crate) fn forward_butterfly<R: Ring>(
@@ -28,7 +31,8 @@ pub(crate) fn forward_butterfly<R: Ring>(
     words[j] = ring.difference(a, b);
 }
 
-// No instance of the forward one by a parameter: here the two products come after the sum and the difference, there before.
+// Not one function with the forward butterfly: here the two products come after the sum and the difference, there before.
+
 /// A masked inverse butterfly: the words at i and j come under the own mask of the butterfly, and go under those of the words.
 pub(crate) fn inverse_butterfly<R: Ring>(
     ring: &R,
@@ -52,9 +56,10 @@ pub(crate) fn inverse_butterfly<R: Ring>(
     words[j] = ring.product(v, d);
 }
 
-// Forward and back a group asks the two lists for other masks: forward two of `before` and one of `list`, back one and two. A choice between
-// them would stand in the innermost loop. The loops go by offset, since a butterfly finds its masks by number and writes two places `len`
-// apart; of two halves gone through by `iter_mut` and `zip`, a proof would know the lengths alone.
+// Forward and back, a group has another butterfly, and asks the two lists for other masks: forward the layer's own list for one and the list
+// before for two, back the other way round. One function for both would take the butterfly as a closure over the words, whose contract is
+// longer than this loop. The loops go by offset, since a butterfly finds its masks by number and writes two places `len` apart; of two halves
+// gone through by `iter_mut` and `zip`, a proof would know the lengths alone.
 
 /// The butterflies of one group of a forward layer.
 pub(crate) fn forward_group<R: Ring>(

@@ -1,4 +1,4 @@
-ghost use Rattle.std.specs.Prelude.{◌≡◌, ℕ, pred, ◌-◌, ◌*◌, ◌<◌, length};
+ghost use Rattle.std.specs.Prelude.{◌≡◌, ℕ, pred, ◌-◌, ◌*◌, ◌<◌};
 ghost use Rattle.algebra.specs.declared.Direction.TheVariants.{Inverse};
 ghost use Rattle.algebra.specs.Congruence.{Same};
 ghost use Rattle.algebra.specs.Masks.{mask_after, InverseLayer};
@@ -10,7 +10,8 @@ use crate::masked::MaskedLayer;
 use crate::masks::Masks;
 use rings::Ring;
 
-// The two directions have groups of their own, by number; after `chunks_exact_mut` a proof would know only the length of the words.
+// The two directions have other groups and other butterflies, so each has its loop. The loops go by the group's index, which its factor and
+// its masks need; after `chunks_exact_mut` a proof would know only the length of the words.
 
 /// One masked forward layer.
 pub fn forward_layer<R: Ring>(ring: &R, words: &mut [R::Word], masked: &MaskedLayer)

@@ -1,4 +1,4 @@
-ghost use Rattle.std.specs.Prelude.{◌≡◌, ℕ, pred, ◌-◌, length};
+ghost use Rattle.std.specs.Prelude.{◌≡◌, ℕ, pred, ◌-◌};
 ghost use Rattle.algebra.specs.Layers.{ntt, inv_ntt};
 ghost use Rattle.engine.specs.Rows.{Elements, IsRow, held};
 ghost use Rattle.engine.specs.Steps.{InverseOf128, Agrees, unmasked_list};
@@ -41,6 +41,8 @@ pub fn forward_layers<R: Ring>(ring: &R, words: &mut [R::Word])
         forward_layer(ring, words, &unmasked(Layer { number }));
     }
 }
+
+// Not one function with `forward_layers`: it calls another layer, and promises its result for each inverse of 128.
 
 /// The inverse transform: all seven layers back, with no mask.
 pub fn inverse_layers<R: Ring>(ring: &R, words: &mut [R::Word])

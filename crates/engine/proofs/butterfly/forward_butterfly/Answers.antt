@@ -14,6 +14,6 @@ returns g c =
     c.requires.inside.0 c.requires.inside.1 c.requires.all c.sum.ensures.stays c.difference.ensures.stays
     c.index-words-i.is c.index-words-j.is
     (forward_numbers _ _ c.args.z c.args.masks.low c.args.masks.high c.args.masks.own _ _ _ _ _ _ _ _
-    (g.met.R.Ring.below s _ (element_read element c.args.words.now c.args.i _ c.requires.all (omega arith) c.index-words-i.is))
+    (g.met.R.Ring.below s c.index-words-i.result (element_read element c.args.words.now c.args.i c.index-words-i.result c.requires.all (omega arith) c.index-words-i.is))
     h1 h2 c.power-u.ensures.means c.power-v.ensures.means c.product-a.ensures.means c.product-b.ensures.means
     c.sum.ensures.means c.difference.ensures.means)

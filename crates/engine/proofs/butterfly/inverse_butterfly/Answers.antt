@@ -13,6 +13,6 @@ returns g c =
     c.requires.inside.0 c.requires.inside.1 c.requires.all c.product.ensures.stays c.product-2.ensures.stays
     c.index-words-i.is c.index-words-j.is
     (inverse_numbers _ _ c.args.z c.args.masks.own c.args.masks.low c.args.masks.high _ _ _ _ _ _ _ _
-    (g.met.R.Ring.below s _ (element_read element c.args.words.now c.args.i _ c.requires.all (omega arith) c.index-words-i.is))
+    (g.met.R.Ring.below s c.index-words-i.result (element_read element c.args.words.now c.args.i c.index-words-i.result c.requires.all (omega arith) c.index-words-i.is))
     h c.power-u.ensures.means c.power-v.ensures.means c.sum-s.ensures.means c.difference-d.ensures.means
     c.product.ensures.means c.product-2.ensures.means)
