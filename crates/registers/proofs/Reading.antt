@@ -1,6 +1,6 @@
 -- The words of a register, tested one after another, and read while others are written.
-use Rattle.std.proofs.Common.{◌≡◌, ℕ, suc, ◌+◌, ◌*◌, ◌<◌, ◌≤◌, Bool, true, false, min, List, [], ◌∷◌, length, get_or, sym, refl, ap, ◌∙◌, inl, inr, ⊎_elim, arith}
-use mathlib.Core.Option.{none, some}
+use Rattle.std.proofs.Common.{◌≡◌, ℕ, suc, ◌+◌, ◌*◌, ◌<◌, ◌≤◌, Bool, true, min, List, [], ◌∷◌, length, get_or, sym, refl, ap, ◌∙◌, inl, inr, ⊎_elim, arith}
+use mathlib.Core.Option.{none}
 use Rattle.std.specs.List.{zip}
 use Rattle.std.proofs.lemmas.Slice.Zip.{length-zip, get_or-zip}
 use Rattle.std.proofs.lemmas.List.{get_or_default}
@@ -27,10 +27,6 @@ pair_sound t xs ys k p h l e =
 module _ {W : Type 0} (t : W → Bool) (ws : List W) (r : ℕ) (size : length ws ≡ 2048) (known : r < 8) where
   pub sound_at : flaw t (part ws r) ≡ none → (k : ℕ) (d : W) → k < 256 → t (get_or ws (256 * r + k) d) ≡ true
   sound_at h k d l = ap t (sym (part_at ws r k d l)) ∙ at_none t (part ws r) h k d (omega (arith, part_size ws size r known))
-
-  -- a word that was read is an element, where the register was tested
-  pub read_sound : flaw t (part ws r) ≡ none → (k : ℕ) (x : W) → k < 256 → x ≡ get_or ws (256 * r + k) x → t x ≡ true
-  read_sound h k x l e = ap t e ∙ sound_at h k x l
 
 -- a word that is read while the words of d before place n are written, at n or later, is the old one
 pub old_read : {W : Type 0} (a d n k : ℕ) (P : ℕ → W → Type 0) (ws ws' : List W) (x e : W) → Filled (256 * d) n P ws ws' → n ≤ k → k < 256 →

@@ -1,8 +1,14 @@
 -- What the loops over the words of registers promise.
-use Rattle.std.specs.Prelude.{◌≡◌, ℕ, ◌+◌, ◌*◌, ◌<◌, false, List, length, ◌==◌, slice_index_or}
+use Rattle.std.specs.Prelude.{◌≡◌, ℕ, ◌+◌, ◌*◌, ◌<◌, Bool, false, List, length, ◌==◌, slice_index_or}
+use Rattle.std.proofs.Math.Option.{none}
+use Rattle.rings.specs.Refusals.{flaw}
 use Rattle.guarded.specs.Model.{Guarded, Lifted}
 use Rattle.histories.specs.Calls.{part, plains, residues}
 use Rattle.histories.specs.Serves.{Numbered}
+
+-- every word of register r is an element
+abbrev pub Tested : {W : Type 0} → (element : W → Bool) → List W → (r : ℕ) → Type 0
+Tested element words r = flaw element (part words r) ≡ none
 
 -- at most the words of register d have changed
 pub record Only {W : Type 0} (d : ℕ) (words words' : List W) : Type 0 where

@@ -6,6 +6,7 @@ ghost use Rattle.rings.specs.Refusals.{first, scan, flaw};
 ghost use Rattle.guarded.specs.Model.{model};
 ghost use Rattle.histories.specs.Calls.{part, elements, plains, residues, differ};
 ghost use Rattle.histories.specs.Answers.{complaint};
+ghost use Rattle.registers.specs.Rows.{Tested};
 
 use crate::row::row;
 use guarded::GuardedRing;
@@ -51,7 +52,7 @@ pub fn residues_agree<G: GuardedRing>(
 ) -> Result<(), Refusal>
     requires size { length words.now ≡ 2048 }
     requires numbers { length numbers.now ≡ 256 }
-    requires tested { flaw (G.element ring.now) (part words.now r.number) ≡ none }
+    requires tested { Tested (G.element ring.now) words.now r.number }
     ensures { complaint result ≡ first (scan (differ (residues (model G.GuardedRing ring.now) (part words.now r.number)) numbers.now) Fault ∷ []) }
 {
     match first_fault(ring, row(words, r), numbers) {
@@ -64,9 +65,10 @@ pub fn residues_agree<G: GuardedRing>(
 pub fn hand_out<G: GuardedRing>(ring: &G, words: &[G::Word], r: Index, out: &mut [u16])
     requires size { length words.now ≡ 2048 }
     requires out { length out.old ≡ 256 }
-    requires tested { flaw (G.element ring.now) (part words.now r.number) ≡ none }
+    requires tested { Tested (G.element ring.now) words.now r.number }
     ensures { out.new ≡ plains (model G.GuardedRing ring.now) (part words.now r.number) }
 {
+    // An index counts for `out`, since a proof knows only the length of what `iter_mut` with `zip` wrote.
     for (k, w) in row(words, r).iter().enumerate() {
         let (s, _) = ring.split(*w);
         out[k] = s;

@@ -4,7 +4,7 @@ ghost use Rattle.rings.specs.Refusals.{flaw, below};
 ghost use Rattle.guarded.specs.Model.{model};
 ghost use Rattle.histories.specs.Calls.{part};
 ghost use Rattle.histories.specs.Serves.{Meaning, Numbered};
-ghost use Rattle.registers.specs.Rows.{Only, Holding, Wiped};
+ghost use Rattle.registers.specs.Rows.{Only, Holding, Wiped, Tested};
 
 use guarded::GuardedRing;
 use histories::Index;
@@ -28,6 +28,7 @@ pub fn load_register<G: GuardedRing>(
     ensures holds { Holding (model G.GuardedRing ring.now) xs.now cs.now bytes.now (part words.new r.number) }
 {
     let base = 256 * r.number as usize;
+    // An index counts, since a proof knows only the length of what `iter_mut` with `zip` or `enumerate` wrote.
     for k in 0..256 {
         words[base + k] = ring.lift(xs[k], cs[k], bytes[k]);
     }
@@ -38,12 +39,13 @@ pub fn refresh_register<G: GuardedRing>(ring: &G, words: &mut [G::Word], r: Inde
     requires room { length words.old ≡ 2048 }
     requires size { length bytes.now ≡ 256 }
     requires digits { flaw (below (G.redundancy ring.now)) bytes.now ≡ none }
-    requires tested { flaw (G.element ring.now) (part words.old r.number) ≡ none }
+    requires tested { Tested (G.element ring.now) words.old r.number }
     ensures only { Only r.number words.old words.new }
     ensures means { Meaning (model G.GuardedRing ring.now) (map (G.meaning ring.now) (part words.old r.number)) (part words.new r.number) }
     ensures numbers { Numbered (model G.GuardedRing ring.now) bytes.now (part words.new r.number) }
 {
     let base = 256 * r.number as usize;
+    // An index counts here too: a word is written from itself and the byte at its place.
     for k in 0..256 {
         let (s, c) = ring.split(words[base + k]);
         words[base + k] = ring.lift(s, c, bytes[k]);

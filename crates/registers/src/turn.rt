@@ -1,11 +1,9 @@
 ghost use Rattle.std.specs.Prelude.{◌≡◌, ℕ, ◌+◌, ◌-◌, ◌*◌, ◌<◌, ◌≤◌, true, map, length};
-ghost use Rattle.std.proofs.Math.Option.{none};
-ghost use Rattle.rings.specs.Refusals.{flaw};
 ghost use Rattle.guarded.specs.Model.{model};
 ghost use Rattle.histories.specs.Operations.{layer_under};
 ghost use Rattle.histories.specs.Calls.{part, meanings};
 ghost use Rattle.histories.specs.Serves.{Meaning};
-ghost use Rattle.registers.specs.Rows.{Only};
+ghost use Rattle.registers.specs.Rows.{Only, Tested};
 
 use algebra::Direction;
 use engine::MaskedLayer;
@@ -23,7 +21,7 @@ pub fn turn_register<G: GuardedRing>(
     masked: &MaskedLayer,
 )
     requires size { length words.old ≡ 2048 }
-    requires tested { flaw (G.element ring.now) (part words.old r.number) ≡ none }
+    requires tested { Tested (G.element ring.now) words.old r.number }
     ensures only { Only r.number words.old words.new }
     ensures means { Meaning (model G.GuardedRing ring.now) (layer_under (meanings (model G.GuardedRing ring.now)) way masked.now.layer.number masked.now.before.now masked.now.list.now (map (G.meaning ring.now) (part words.old r.number))) (part words.new r.number) }
 {
