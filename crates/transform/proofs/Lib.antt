@@ -1,4 +1,4 @@
-pub mod Plains
 pub mod Passing
+pub mod Plains
 pub mod Written
 pub mod GuardedRows

@@ -8,19 +8,20 @@ use Rattle.algebra.proofs.Modular.{same_sym}
 use Rattle.algebra.proofs.Lists.{listed_is}
 use Rattle.rings.specs.Refusals.{flaw, below}
 use Rattle.rings.proofs.Flaws.{low_at}
-use Rattle.engine.specs.Rows.{Elements, held}
+use Rattle.engine.specs.Rows.{Elements, IsRow, held}
 use Rattle.engine.specs.Steps.{Agrees}
+use Rattle.transform.proofs.Passing.{Passed}
 
 -- a word means itself
 pub held_is : (xs : List ℕ) → held (λ (x : ℕ). x) xs ≡ coefficient xs
 held_is xs = ap (λ (ys : List ℕ). coefficient ys) (map-id xs)
 
--- a copy of checked coefficients has elements
-pub elements_of : (m : ℕ) (f ws : List ℕ) → m ≡ 3329 → flaw (below 3329) f ≡ none → ws ≡ f → Elements (λ (x : ℕ). ltb x m) ws
-elements_of m f ws e h copied = rw copied (record { at = λ k d l. lt-ltb _ _ (rw e (within k d l)) })
+-- a copy of checked coefficients is a row
+pub row_of : (m : ℕ) (f out ws : List ℕ) → m ≡ 3329 → Passed f out → ws ≡ f → IsRow (λ (x : ℕ). ltb x m) ws
+row_of m f out ws e P copied = rw copied (record { size = P.size; all = record { at = λ k d l. lt-ltb _ _ (rw e (within k d l)) } })
   where
     within : (k d : ℕ) → k < length f → get_or f k d < 3329
-    within k d l = rw (get_or_default f k d 0 l) (low_at 3329 f h k l)
+    within k d l = rw (get_or_default f k d 0 l) (low_at 3329 f P.range k l)
 
 pub polynomial_of : (m : ℕ) (xs : List ℕ) → m ≡ 3329 → length xs ≡ 256 → Elements (λ (x : ℕ). ltb x m) xs → Polynomial 3328 xs
 polynomial_of m xs e size E = record { size = size; small = λ j l. omega (arith, ltb-true (coefficient xs j) m (E.at j 0 (omega arith))) }

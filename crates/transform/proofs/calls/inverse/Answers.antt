@@ -1,16 +1,13 @@
 use Rattle.std.proofs.Common.{arith}
 use Rattle.transform.proofs.Passing.{transform_passed}
-use Rattle.transform.proofs.Plains.{elements_of}
+use Rattle.transform.proofs.Plains.{row_of}
 use Rattle.transform.proofs.Written.{inverted_by}
 use Rattle.transform.proofs.calls.inverse.Goals as goal
 
 pub inverse_layers-requires : goal.inverse_layers-requires
 inverse_layers-requires c =
     let passed = transform_passed c.args.f.now c.args.out.now c.in_ok-may_transform.ensures in
-    record {
-      size = omega (arith, c.copy_from_slice.ensures.len);
-      all = elements_of _ _ _ c.ml_kem_ring.ensures passed.range c.copy_from_slice.ensures.after;
-    }
+    row_of _ _ _ _ c.ml_kem_ring.ensures passed c.copy_from_slice.ensures.after
 
 pub returns : goal.returns
 returns c =

@@ -1,18 +1,18 @@
 use Rattle.std.proofs.Common.{arith}
 use Rattle.transform.proofs.Passing.{transform_passed}
-use Rattle.transform.proofs.Plains.{elements_of}
+use Rattle.transform.proofs.Plains.{row_of}
 use Rattle.transform.proofs.Written.{forward_layered_by, inverse_layered_by}
 use Rattle.transform.proofs.calls.layer.Goals as goal
 
-pub forward_layer-requires-clause-all : goal.forward_layer-requires-clause-all
-forward_layer-requires-clause-all c =
+pub forward_layer-requires : goal.forward_layer-requires
+forward_layer-requires c =
     let passed = transform_passed c.args.f.now c.args.out.now c.in_ok-may_transform.ensures in
-    elements_of _ _ _ c.ml_kem_ring-ring.ensures passed.range c.copy_from_slice.ensures.after
+    row_of _ _ _ _ c.ml_kem_ring-ring.ensures passed c.copy_from_slice.ensures.after
 
-pub inverse_layer-requires-clause-all : goal.inverse_layer-requires-clause-all
-inverse_layer-requires-clause-all c =
+pub inverse_layer-requires : goal.inverse_layer-requires
+inverse_layer-requires c =
     let passed = transform_passed c.args.f.now c.args.out.now c.in_ok-may_transform.ensures in
-    elements_of _ _ _ c.ml_kem_ring-ring.ensures passed.range c.copy_from_slice.ensures.after
+    row_of _ _ _ _ c.ml_kem_ring-ring.ensures passed c.copy_from_slice.ensures.after
 
 pub returns-in-Forward-clause-writes : goal.returns-in-Forward-clause-writes
 returns-in-Forward-clause-writes c =
