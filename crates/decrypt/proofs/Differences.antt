@@ -9,35 +9,8 @@ use Rattle.algebra.proofs.Sums.{sum_zero, sum_suc}
 use Rattle.algebra.proofs.Lists.{listed_same, listed_polynomial}
 use Rattle.algebra.proofs.Theorems.{ml_kem}
 use Rattle.transform.specs.Results.{inverse_of, Transformed, Inverted, Multiplied}
-use Rattle.decrypt.specs.Decryption.{part, term, Rows, Decrypted}
-
--- the first n coefficients of p were subtracted from w, which now is w'
-pub record Subtracted (n : ℕ) (w p w' : List ℕ) : Type 0 where
-  pub size : length w' ≡ length w
-  pub below : (j : ℕ) → j < n → coefficient w' j < 3329
-  pub restores : (j : ℕ) → j < n → Same 3328 (coefficient w' j + coefficient p j) (coefficient w j)
-  pub rest : (j : ℕ) → n ≤ j → coefficient w' j ≡ coefficient w j
-
-pub subtracted_none : (w p : List ℕ) → Subtracted 0 w p w
-subtracted_none w p = record { size = refl; below = λ j h. absurd (omega arith); restores = λ j h. absurd (omega arith); rest = λ j h. refl }
-
-pub subtracted_more : (n : ℕ) (w p w' : List ℕ) (x : ℕ) → n < length w → Subtracted n w p w' → x < 3329 → Same 3328 (x + coefficient p n) (coefficient w' n) →
-    Subtracted (n + 1) w p (set w' n x)
-subtracted_more n w p w' x room t low back =
-    let here : coefficient (set w' n x) n ≡ x = get_or-set_same w' n x 0 (omega (arith, t.size)) in
-    let other : (j : ℕ) → (j ≡ n → ⊥) → coefficient (set w' n x) j ≡ coefficient w' j = λ j ne. get_or-set_other w' n j x 0 ne in
-    record {
-      size = simp length-set t.size;
-      below = λ j h. elim (dec_lt j n) [
-        | yes l ↦ rw (other j (omega arith)) (t.below j l)
-        | no l ↦ let e : j ≡ n = omega arith in rw (e, here) low
-      ];
-      restores = λ j h. elim (dec_lt j n) [
-        | yes l ↦ rw (other j (omega arith)) (t.restores j l)
-        | no l ↦ let e : j ≡ n = omega arith in rw (e, here, ← t.rest n (omega arith)) back
-      ];
-      rest = λ j h. other j (omega arith) ∙ t.rest j (omega arith);
-    }
+use Rattle.decryption.specs.Restored.{part}
+use Rattle.decrypt.specs.Decryption.{term, Rows, Decrypted}
 
 -- the product by the transforms
 pub product_by : (u s a b p : List ℕ) → Transformed u a → Multiplied a s b → Inverted b p → p ≡ polynomial_product 3328 u (inverse_of s)

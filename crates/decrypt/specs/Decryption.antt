@@ -1,14 +1,9 @@
--- The arithmetic of decryption: v minus the sum of u[i] * s[i], modulo X ^ 256 + 1 and 3329, and the message in it.
-use Rattle.std.specs.Prelude.{◌≡◌, ℕ, ◌+◌, ◌*◌, ◌<◌, cond, ◌&&◌, List, length, take, drop, Some, None, Option, nat_le}
-use Rattle.algebra.specs.Congruence.{Same}
-use Rattle.algebra.specs.Sum.{sum}
+-- The arithmetic of decryption: v minus the sum of u[i] * s[i], modulo X ^ 256 + 1 and 3329.
+use Rattle.std.specs.Prelude.{◌≡◌, ℕ, ◌+◌, ◌*◌, ◌<◌, List, length, Option, MatchOption}
 use Rattle.algebra.specs.Product.{product}
 use Rattle.algebra.specs.Polynomials.{coefficient, Polynomial}
 use Rattle.transform.specs.Results.{inverse_of}
-
--- polynomial i of a row of them
-abbrev pub part : List ℕ → ℕ → List ℕ
-part xs i = take 256 (drop (256 * i) xs)
+use Rattle.decryption.specs.Restored.{part, Restored}
 
 -- coefficient j of u[i] * s[i], where the row holds s[i] transformed
 unfoldable pub term : (u s : List ℕ) (j i : ℕ) → ℕ
@@ -16,8 +11,7 @@ term u s j i = product 3328 (coefficient (part u i)) (coefficient (inverse_of (p
 
 -- there is an answer exactly where P holds, and Q holds of it
 abbrev pub Exactly : {X : Type 0} → Option X → Type 0 → (X → Type 0) → Type 0
-Exactly None P Q = P → ⊥
-Exactly (Some x) P Q = P × Q x
+Exactly answer P Q = MatchOption answer (P → ⊥) (λ x. P × Q x)
 
 -- rows of the first k polynomials, each of 256 coefficients below 3329
 pub record Rows (k : ℕ) (u s : List ℕ) : Type 0 where
@@ -31,22 +25,5 @@ pub record Proper (k : ℕ) (u s v : List ℕ) : Type 0 where
   pub rows : Rows k u s
 
 -- w with the first k products added is v
-pub record Decrypted (k : ℕ) (u s v w : List ℕ) : Type 0 where
-  pub reduced : Polynomial 3328 w
-  pub restores : (j : ℕ) → j < 256 → Same 3328 (coefficient w j + sum k (term u s j)) (coefficient v j)
-
--- a coefficient stands for the bit 1 where it is nearer to 3329 / 2 than to 0
-abbrev pub bit_of : ℕ → ℕ
-bit_of x = cond (nat_le 833 x && nat_le x 2496) 1 0
-
--- eight coefficients stand for a byte, its lowest bit first
-abbrev pub byte_at : List ℕ → ℕ → ℕ
-byte_at w k =
-    bit_of (coefficient w k)
-    + 2 * bit_of (coefficient w (k + 1))
-    + 4 * bit_of (coefficient w (k + 2))
-    + 8 * bit_of (coefficient w (k + 3))
-    + 16 * bit_of (coefficient w (k + 4))
-    + 32 * bit_of (coefficient w (k + 5))
-    + 64 * bit_of (coefficient w (k + 6))
-    + 128 * bit_of (coefficient w (k + 7))
+abbrev pub Decrypted : (k : ℕ) (u s v w : List ℕ) → Type 0
+Decrypted k u s v w = Restored (term u s) k v w

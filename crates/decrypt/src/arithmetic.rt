@@ -4,6 +4,7 @@ ghost use Rattle.algebra.specs.Polynomials.{coefficient, Polynomial, polynomial_
 ghost use Rattle.transform.specs.Results.{inverse_of};
 ghost use Rattle.decrypt.specs.Decryption.{Exactly, Proper, Decrypted};
 
+use std::array;
 use transform::{forward, inverse, multiply};
 
 // The product of u and s modulo X^256 + 1, from u and the transform of s; none where one of them is no polynomial.
@@ -29,17 +30,14 @@ fn product(u: &[u16], s: &[u16]) -> Option<[u16; 256]>
 fn polynomial(v: &[u16]) -> Option<[u16; 256]>
     ensures { Exactly result (Polynomial 3328 v.now) (λ w. w ≡ v.now) }
 {
-    if v.len() != 256 {
+    let Ok(w) = <[u16; 256]>::try_from(v) else {
         return None;
+    };
+    if w.iter().all(|x| *x < 3329) {
+        Some(w)
+    } else {
+        None
     }
-    let mut w = [0u16; 256];
-    w.copy_from_slice(v);
-    for j in 0..256 {
-        if w[j] >= 3329 {
-            return None;
-        }
-    }
-    Some(w)
 }
 
 // The difference a - b modulo 3329.
@@ -52,14 +50,12 @@ fn difference(a: u16, b: u16) -> u16
 }
 
 // w - p, coefficient by coefficient.
-fn subtract(w: &mut [u16; 256], p: &[u16; 256])
-    requires { (Polynomial 3328 w.old) × (Polynomial 3328 p.now) }
-    ensures below { Polynomial 3328 w.new }
-    ensures restores { (j : ℕ) → j < 256 → Same 3328 (coefficient w.new j + coefficient p.now j) (coefficient w.old j) }
+fn subtract(w: &[u16; 256], p: &[u16; 256]) -> [u16; 256]
+    requires { (Polynomial 3328 w.now) × (Polynomial 3328 p.now) }
+    ensures below { Polynomial 3328 result }
+    ensures restores { (j : ℕ) → j < 256 → Same 3328 (coefficient result j + coefficient p.now j) (coefficient w.now j) }
 {
-    for k in 0..256 {
-        w[k] = difference(w[k], p[k]);
-    }
+    array::from_fn(|k| difference(w[k], p[k]))
 }
 
 /// v minus the sum of u[i] * s[i], of `rank` polynomials u and as many transformed polynomials s, each row one after the other; none
@@ -72,9 +68,8 @@ pub fn decrypt(rank: u8, u: &[u16], s: &[u16], v: &[u16]) -> Option<[u16; 256]>
         return None;
     }
     let mut w = polynomial(v)?;
-    for i in 0..count {
-        let p = product(&u[256 * i..256 * i + 256], &s[256 * i..256 * i + 256])?;
-        subtract(&mut w, &p);
+    for (u_i, s_i) in u.chunks_exact(256).zip(s.chunks_exact(256)) {
+        w = subtract(&w, &product(u_i, s_i)?);
     }
     Some(w)
 }

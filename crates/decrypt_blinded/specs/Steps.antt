@@ -8,7 +8,7 @@ use Rattle.histories.specs.Calls.{coefficients, State}
 use Rattle.histories.specs.Serves.{put}
 use Rattle.histories.specs.Ledger.{Held, holds}
 use Rattle.histories.specs.Tracked.{Tracked, Keeps}
-use Rattle.decrypt_blinded.specs.Decryption.{part}
+use Rattle.decryption.specs.Restored.{part}
 
 -- how many layers of its transform a register has had before all layers, and after them
 abbrev pub layers_before : Direction → ℕ

@@ -4,7 +4,7 @@ use Rattle.guarded.specs.Model.{guarded}
 use Rattle.histories.specs.Tracked.{Keeps}
 use Rattle.records.specs.Tables.{state}
 use Rattle.decrypt_blinded.specs.Steps.{Paired, products}
-use Rattle.decrypt_blinded.specs.Decryption.{part}
+use Rattle.decryption.specs.Restored.{part}
 use Rattle.decrypt_blinded.proofs.Stepping.{serves_in, keeps_in, begins, continues_at, row_lent}
 use Rattle.decrypt_blinded.proofs.blinded.sum_products.Goals as goal
 
