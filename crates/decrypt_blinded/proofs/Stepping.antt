@@ -11,7 +11,7 @@ use Rattle.histories.specs.Serves.{Answer, put, done, Serves}
 use Rattle.histories.specs.Ledger.{Held, holds, moved}
 use Rattle.histories.specs.Tracked.{Tracked, Keeps}
 use Rattle.histories.proofs.Tracking.{tracks_on}
-use Rattle.decrypt_blinded.specs.Decryption.{part as row}
+use Rattle.decryption.specs.Restored.{part as row}
 use Rattle.decrypt_blinded.specs.Steps.{layers_before, layers_after, products, Turned, Paired, Summed}
 
 -- how many layers the register has had after n of them

@@ -11,12 +11,15 @@ pub loop-u_i-init : goal.loop-u_i-init
 loop-u_i-init c =
     let E = c.in_ok-w.ensures in (
       (search rules, search rules),
-      (tt, record {
-        u_left = record { size = search rules; rest = search rules };
-        s_left = record { size = search rules; rest = search rules };
-        decrypted = decrypted_none _ _ _ _ (subst (Polynomial 3328) (sym E.1) E.0) E.1;
-        rows = rows_none _ _;
-      }),
+      (
+        tt,
+        record {
+          u_left = record { size = search rules; rest = search rules };
+          s_left = record { size = search rules; rest = search rules };
+          decrypted = decrypted_none _ _ _ _ (subst (Polynomial 3328) (sym E.1) E.0) E.1;
+          rows = rows_none _ _;
+        },
+      ),
     )
 
 pub returns-in_err-product : goal.returns-in_err-product
@@ -27,8 +30,8 @@ returns-in_err-product c =
     let b = comes k c.args.s.now c.in-Some.s_i (zip_second c.loop-u_i.u_i-iterator) (zip_second c.next.new.self) W.s_left c.in-Some.ensures.steps.1 in
     rw c.from_residual-in_err-product.ensures
     (λ P.
-        let room : k < c.args.rank = omega (arith, a.within, P.u_size) in
-        c.in_err-product.ensures (subst (Polynomial 3328) (sym a.is) (P.rows.u_row k room), subst (Polynomial 3328) (sym b.is) (P.rows.s_row k room)))
+    let room : k < c.args.rank = omega (arith, a.within, P.u_size) in
+    c.in_err-product.ensures (subst (Polynomial 3328) (sym a.is) (P.rows.u_row k room), subst (Polynomial 3328) (sym b.is) (P.rows.s_row k room)))
 
 pub subtract-w-requires : goal.subtract-w-requires
 subtract-w-requires c = (c.loop-u_i.invariant.1.1.decrypted.reduced, subst (Polynomial 3328) (sym c.in_ok-product.ensures.1) (listed_polynomial 3328 _))
