@@ -1,5 +1,5 @@
 ghost use Rattle.std.specs.Prelude.{◌≡◌, ℕ, ◌+◌, ◌-◌, ◌*◌, ◌<◌, ◌≤◌, length, OnOk};
-ghost use Rattle.guarded.specs.Model.{guarded as model};
+ghost use Rattle.guarded.specs.Model.{model};
 ghost use Rattle.histories.specs.Calls.{part as held, turn};
 ghost use Rattle.histories.specs.Serves.{Serves};
 ghost use Rattle.histories.specs.Answers.{told};
@@ -39,7 +39,7 @@ fn turn_one<G: GuardedRing>(
     masks: &[u8],
 ) -> Result<(), Refusal>
     ensures keeps { space.new.ring ≡ space.old.ring }
-    ensures serves { Serves (model G.check G.redundancy G.root G.element G.meaning G.number space.old.ring) (state space.old.table) (length words.old) (held words.old) (turn way r masks.now) (told result) (state space.new.table) (held words.new) }
+    ensures serves { Serves (model G.GuardedRing space.old.ring) (state space.old.table) (length words.old) (held words.old) (turn way r masks.now) (told result) (state space.new.table) (held words.new) }
 {
     match way {
         Direction::Forward => space.forward(words, r, masks),
@@ -57,7 +57,7 @@ fn turn_all<G: GuardedRing>(
 ) -> Result<(), Refusal>
     requires { (length words.old ≡ 2048) × (length masks.now ≡ 96) }
     ensures keeps { space.new.ring ≡ space.old.ring }
-    ensures turned { OnOk result (Turned (model G.check G.redundancy G.root G.element G.meaning G.number space.old.ring) (state space.old.table) words.old (state space.new.table) words.new way r) }
+    ensures turned { OnOk result (Turned (model G.GuardedRing space.old.ring) (state space.old.table) words.old (state space.new.table) words.new way r) }
 {
     for n in 0..7 {
         let list = masks_of(masks, n);
@@ -76,7 +76,7 @@ fn load_pair<G: GuardedRing>(
 ) -> Result<(), Refusal>
     requires { (length words.old ≡ 2048) × (length random.now ≡ 612) }
     ensures keeps { space.new.ring ≡ space.old.ring }
-    ensures paired { OnOk result (Paired (model G.check G.redundancy G.root G.element G.meaning G.number space.old.ring) (state space.old.table) words.old (state space.new.table) words.new u.now s.now) }
+    ensures paired { OnOk result (Paired (model G.GuardedRing space.old.ring) (state space.old.table) words.old (state space.new.table) words.new u.now s.now) }
 {
     space.load(words, 0, u, witness(random[0], random[1]), &random[2..258])?;
     turn_all(space, words, Direction::Forward, 0, &random[258..354])?;
@@ -102,7 +102,7 @@ fn sum_products<G: GuardedRing>(
     requires rank { (1 ≤ rank) × (rank ≤ 4) }
     requires sizes { (length words.old ≡ 2048) × ((length u.now ≡ 256 * rank) × ((length s.now ≡ 256 * rank) × (length random.now ≡ 612 * rank))) }
     ensures keeps { space.new.ring ≡ space.old.ring }
-    ensures summed { OnOk result (Summed (model G.check G.redundancy G.root G.element G.meaning G.number space.old.ring) (state space.old.table) words.old (state space.new.table) words.new u.now s.now (rank - 1)) }
+    ensures summed { OnOk result (Summed (model G.GuardedRing space.old.ring) (state space.old.table) words.old (state space.new.table) words.new u.now s.now (rank - 1)) }
 {
     load_pair(space, words, &u[0..256], &s[0..256], &random[0..612])?;
     space.multiply(words, 2, 0, 1)?;
@@ -138,7 +138,7 @@ pub fn decrypt<G: GuardedRing>(
     requires rank { (1 ≤ rank) × (rank ≤ 4) }
     requires sizes { (length words.old ≡ 2048) × ((length u.now ≡ 256 * rank) × ((length s.now ≡ 256 * rank) × (length random.now ≡ 612 * rank + 354))) }
     ensures keeps { space.new.ring ≡ space.old.ring }
-    ensures right { OnOk result ((L : ℕ → Held) → Tracked (model G.check G.redundancy G.root G.element G.meaning G.number space.old.ring) (state space.old.table) words.old L → Decrypted rank u.now s.now v.now out.new) }
+    ensures right { OnOk result ((L : ℕ → Held) → Tracked (model G.GuardedRing space.old.ring) (state space.old.table) words.old L → Decrypted rank u.now s.now v.now out.new) }
 {
     let used = 612 * rank;
     sum_products(space, words, rank, u, s, &random[0..used])?;

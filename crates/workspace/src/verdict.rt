@@ -1,5 +1,5 @@
 ghost use Rattle.std.specs.Prelude.{◌≡◌, length, IfOk};
-ghost use Rattle.guarded.specs.Model.{guarded as model};
+ghost use Rattle.guarded.specs.Model.{model};
 ghost use Rattle.histories.specs.Calls.{part, load, turn, join, refresh, release, polynomial};
 ghost use Rattle.histories.specs.Answers.{complaint};
 ghost use Rattle.records.specs.Tables.{state};
@@ -29,7 +29,7 @@ pub(crate) fn may_load<G: GuardedRing>(
     c: u32,
     bytes: &[u8],
 ) -> Result<(), Refusal>
-    ensures { complaint result ≡ judgement (model G.check G.redundancy G.root G.element G.meaning G.number ring.now) (state table.now) (length words.now) (part words.now) (load polynomial r xs.now c bytes.now) }
+    ensures { complaint result ≡ judgement (model G.GuardedRing ring.now) (state table.now) (length words.now) (part words.now) (load polynomial r xs.now c bytes.now) }
 {
     check_load(
         table,
@@ -52,7 +52,7 @@ pub(crate) fn may_turn<G: GuardedRing>(
     r: u8,
     masks: &[u8],
 ) -> Result<(u8, Form), Refusal>
-    ensures says { complaint result ≡ judgement (model G.check G.redundancy G.root G.element G.meaning G.number ring.now) (state table.now) (length words.now) (part words.now) (turn way r masks.now) }
+    ensures says { complaint result ≡ judgement (model G.GuardedRing ring.now) (state table.now) (length words.now) (part words.now) (turn way r masks.now) }
     ensures found { IfOk result (λ x. Turns (state table.now) way r masks.now x.0 x.1) }
 {
     let step = check_turn(table, words.len(), way, r, masks)?;
@@ -70,7 +70,7 @@ pub(crate) fn may_join<G: GuardedRing>(
     a: u8,
     b: u8,
 ) -> Result<(), Refusal>
-    ensures { complaint result ≡ judgement (model G.check G.redundancy G.root G.element G.meaning G.number ring.now) (state table.now) (length words.now) (part words.now) (join (operation_of operation) d a b) }
+    ensures { complaint result ≡ judgement (model G.GuardedRing ring.now) (state table.now) (length words.now) (part words.now) (join (operation_of operation) d a b) }
 {
     check_join(table, operation, words.len(), d, a, b)?;
     test_register(ring, words, a)?;
@@ -85,7 +85,7 @@ pub(crate) fn may_refresh<G: GuardedRing>(
     r: u8,
     bytes: &[u8],
 ) -> Result<(), Refusal>
-    ensures { complaint result ≡ judgement (model G.check G.redundancy G.root G.element G.meaning G.number ring.now) (state table.now) (length words.now) (part words.now) (refresh r bytes.now) }
+    ensures { complaint result ≡ judgement (model G.GuardedRing ring.now) (state table.now) (length words.now) (part words.now) (refresh r bytes.now) }
 {
     check_refresh(table, ring.redundancy_number(), words.len(), r, bytes)?;
     test_register(ring, words, r)
@@ -101,7 +101,7 @@ pub(crate) fn may_release<G: GuardedRing>(
     out: usize,
     scratch: &mut [u32],
 ) -> Result<Form, Refusal>
-    ensures says { complaint result ≡ judgement (model G.check G.redundancy G.root G.element G.meaning G.number ring.now) (state table.now) (length words.now) (part words.now) (release r out (length scratch.old)) }
+    ensures says { complaint result ≡ judgement (model G.GuardedRing ring.now) (state table.now) (length words.now) (part words.now) (release r out (length scratch.old)) }
     ensures form { IfOk result (λ F. F ≡ ((state table.now).registers r).form) }
 {
     check_release(table, words.len(), out, scratch.len(), r)?;

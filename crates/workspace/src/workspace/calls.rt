@@ -1,6 +1,6 @@
 ghost use Rattle.std.specs.Prelude.{◌≡◌, length};
 ghost use Rattle.algebra.specs.declared.Direction.TheVariants.{Forward, Inverse};
-ghost use Rattle.guarded.specs.Model.{guarded as model};
+ghost use Rattle.guarded.specs.Model.{model};
 ghost use Rattle.histories.specs.Calls.{part, opened as all_empty, load as loading, turn as turning, join as joining, refresh as refreshing, clear as clearing, polynomial, transform, plus, minus, times};
 ghost use Rattle.histories.specs.Serves.{Serves};
 ghost use Rattle.histories.specs.Answers.{told};
@@ -41,7 +41,7 @@ impl<G: GuardedRing> Workspace<G> {
         bytes: &[u8],
     ) -> Result<(), Refusal>
         ensures keeps { self.new.ring ≡ self.old.ring }
-        ensures serves { Serves (model G.check G.redundancy G.root G.element G.meaning G.number self.old.ring) (state self.old.table) (length words.old) (part words.old) (loading polynomial r coefficients.now c bytes.now) (told result) (state self.new.table) (part words.new) }
+        ensures serves { Serves (model G.GuardedRing self.old.ring) (state self.old.table) (length words.old) (part words.old) (loading polynomial r coefficients.now c bytes.now) (told result) (state self.new.table) (part words.new) }
     {
         self.load_kind(Kind::Polynomial, words, r, coefficients, c, bytes)
     }
@@ -56,7 +56,7 @@ impl<G: GuardedRing> Workspace<G> {
         bytes: &[u8],
     ) -> Result<(), Refusal>
         ensures keeps { self.new.ring ≡ self.old.ring }
-        ensures serves { Serves (model G.check G.redundancy G.root G.element G.meaning G.number self.old.ring) (state self.old.table) (length words.old) (part words.old) (loading transform r values.now c bytes.now) (told result) (state self.new.table) (part words.new) }
+        ensures serves { Serves (model G.GuardedRing self.old.ring) (state self.old.table) (length words.old) (part words.old) (loading transform r values.now c bytes.now) (told result) (state self.new.table) (part words.new) }
     {
         self.load_kind(Kind::Transform, words, r, values, c, bytes)
     }
@@ -71,7 +71,7 @@ impl<G: GuardedRing> Workspace<G> {
         bytes: &[u8],
     ) -> Result<(), Refusal>
         ensures keeps { self.new.ring ≡ self.old.ring }
-        ensures serves { Serves (model G.check G.redundancy G.root G.element G.meaning G.number self.old.ring) (state self.old.table) (length words.old) (part words.old) (loading (kind_of kind) r xs.now c bytes.now) (told result) (state self.new.table) (part words.new) }
+        ensures serves { Serves (model G.GuardedRing self.old.ring) (state self.old.table) (length words.old) (part words.old) (loading (kind_of kind) r xs.now c bytes.now) (told result) (state self.new.table) (part words.new) }
     {
         may_load(&self.ring, &self.table, words, r, xs, c, bytes)?;
         let mut checks = [0u32; 256];
@@ -84,7 +84,7 @@ impl<G: GuardedRing> Workspace<G> {
     /// Runs the next layer of the transform of register r under these masks.
     pub fn forward(&mut self, words: &mut [G::Word], r: u8, masks: &[u8]) -> Result<(), Refusal>
         ensures keeps { self.new.ring ≡ self.old.ring }
-        ensures serves { Serves (model G.check G.redundancy G.root G.element G.meaning G.number self.old.ring) (state self.old.table) (length words.old) (part words.old) (turning Forward r masks.now) (told result) (state self.new.table) (part words.new) }
+        ensures serves { Serves (model G.GuardedRing self.old.ring) (state self.old.table) (length words.old) (part words.old) (turning Forward r masks.now) (told result) (state self.new.table) (part words.new) }
     {
         self.turn(Direction::Forward, words, r, masks)
     }
@@ -92,7 +92,7 @@ impl<G: GuardedRing> Workspace<G> {
     /// Runs the next layer of the inverse transform of register r under these masks.
     pub fn inverse(&mut self, words: &mut [G::Word], r: u8, masks: &[u8]) -> Result<(), Refusal>
         ensures keeps { self.new.ring ≡ self.old.ring }
-        ensures serves { Serves (model G.check G.redundancy G.root G.element G.meaning G.number self.old.ring) (state self.old.table) (length words.old) (part words.old) (turning Inverse r masks.now) (told result) (state self.new.table) (part words.new) }
+        ensures serves { Serves (model G.GuardedRing self.old.ring) (state self.old.table) (length words.old) (part words.old) (turning Inverse r masks.now) (told result) (state self.new.table) (part words.new) }
     {
         self.turn(Direction::Inverse, words, r, masks)
     }
@@ -105,7 +105,7 @@ impl<G: GuardedRing> Workspace<G> {
         masks: &[u8],
     ) -> Result<(), Refusal>
         ensures keeps { self.new.ring ≡ self.old.ring }
-        ensures serves { Serves (model G.check G.redundancy G.root G.element G.meaning G.number self.old.ring) (state self.old.table) (length words.old) (part words.old) (turning way r masks.now) (told result) (state self.new.table) (part words.new) }
+        ensures serves { Serves (model G.GuardedRing self.old.ring) (state self.old.table) (length words.old) (part words.old) (turning way r masks.now) (told result) (state self.new.table) (part words.new) }
     {
         let (layer, next) = may_turn(&self.ring, &self.table, words, way, r, masks)?;
         let before = self.table.incoming(layer);
@@ -117,7 +117,7 @@ impl<G: GuardedRing> Workspace<G> {
     /// Puts the sum of the registers a and b into d, which may be one of them.
     pub fn add(&mut self, words: &mut [G::Word], d: u8, a: u8, b: u8) -> Result<(), Refusal>
         ensures keeps { self.new.ring ≡ self.old.ring }
-        ensures serves { Serves (model G.check G.redundancy G.root G.element G.meaning G.number self.old.ring) (state self.old.table) (length words.old) (part words.old) (joining plus d a b) (told result) (state self.new.table) (part words.new) }
+        ensures serves { Serves (model G.GuardedRing self.old.ring) (state self.old.table) (length words.old) (part words.old) (joining plus d a b) (told result) (state self.new.table) (part words.new) }
     {
         self.join(Operation::Plus, words, d, a, b)
     }
@@ -125,7 +125,7 @@ impl<G: GuardedRing> Workspace<G> {
     /// Puts the difference of the registers a and b into d, which may be one of them.
     pub fn subtract(&mut self, words: &mut [G::Word], d: u8, a: u8, b: u8) -> Result<(), Refusal>
         ensures keeps { self.new.ring ≡ self.old.ring }
-        ensures serves { Serves (model G.check G.redundancy G.root G.element G.meaning G.number self.old.ring) (state self.old.table) (length words.old) (part words.old) (joining minus d a b) (told result) (state self.new.table) (part words.new) }
+        ensures serves { Serves (model G.GuardedRing self.old.ring) (state self.old.table) (length words.old) (part words.old) (joining minus d a b) (told result) (state self.new.table) (part words.new) }
     {
         self.join(Operation::Minus, words, d, a, b)
     }
@@ -133,7 +133,7 @@ impl<G: GuardedRing> Workspace<G> {
     /// Puts the product of the transforms in a and b into d, which may be one of them.
     pub fn multiply(&mut self, words: &mut [G::Word], d: u8, a: u8, b: u8) -> Result<(), Refusal>
         ensures keeps { self.new.ring ≡ self.old.ring }
-        ensures serves { Serves (model G.check G.redundancy G.root G.element G.meaning G.number self.old.ring) (state self.old.table) (length words.old) (part words.old) (joining times d a b) (told result) (state self.new.table) (part words.new) }
+        ensures serves { Serves (model G.GuardedRing self.old.ring) (state self.old.table) (length words.old) (part words.old) (joining times d a b) (told result) (state self.new.table) (part words.new) }
     {
         self.join(Operation::Times, words, d, a, b)
     }
@@ -147,7 +147,7 @@ impl<G: GuardedRing> Workspace<G> {
         b: u8,
     ) -> Result<(), Refusal>
         ensures keeps { self.new.ring ≡ self.old.ring }
-        ensures serves { Serves (model G.check G.redundancy G.root G.element G.meaning G.number self.old.ring) (state self.old.table) (length words.old) (part words.old) (joining (operation_of operation) d a b) (told result) (state self.new.table) (part words.new) }
+        ensures serves { Serves (model G.GuardedRing self.old.ring) (state self.old.table) (length words.old) (part words.old) (joining (operation_of operation) d a b) (told result) (state self.new.table) (part words.new) }
     {
         may_join(&self.ring, &self.table, words, operation, d, a, b)?;
         join_registers(&self.ring, operation, words, d, a, b);
@@ -159,7 +159,7 @@ impl<G: GuardedRing> Workspace<G> {
     /// Puts in place of each word of register r the element of its meaning that has the number given.
     pub fn refresh(&mut self, words: &mut [G::Word], r: u8, bytes: &[u8]) -> Result<(), Refusal>
         ensures keeps { self.new.ring ≡ self.old.ring }
-        ensures serves { Serves (model G.check G.redundancy G.root G.element G.meaning G.number self.old.ring) (state self.old.table) (length words.old) (part words.old) (refreshing r bytes.now) (told result) (state self.new.table) (part words.new) }
+        ensures serves { Serves (model G.GuardedRing self.old.ring) (state self.old.table) (length words.old) (part words.old) (refreshing r bytes.now) (told result) (state self.new.table) (part words.new) }
     {
         may_refresh(&self.ring, &self.table, words, r, bytes)?;
         refresh_register(&self.ring, words, r, bytes);
@@ -169,7 +169,7 @@ impl<G: GuardedRing> Workspace<G> {
     /// Makes register r empty. Its words stay as they are.
     pub fn clear(&mut self, words: &mut [G::Word], r: u8) -> Result<(), Refusal>
         ensures keeps { self.new.ring ≡ self.old.ring }
-        ensures serves { Serves (model G.check G.redundancy G.root G.element G.meaning G.number self.old.ring) (state self.old.table) (length words.old) (part words.old) (clearing r) (told result) (state self.new.table) (part words.new) }
+        ensures serves { Serves (model G.GuardedRing self.old.ring) (state self.old.table) (length words.old) (part words.old) (clearing r) (told result) (state self.new.table) (part words.new) }
     {
         check_clear(words.len(), r)?;
         self.table.clear(r);

@@ -1,4 +1,4 @@
-ghost use Rattle.guarded.specs.Model.{guarded as model};
+ghost use Rattle.guarded.specs.Model.{model};
 ghost use Rattle.registers.specs.Rows.{Wiped};
 
 use super::Workspace;
@@ -10,7 +10,7 @@ use rings::Ring;
 impl<G: GuardedRing + Drop> Workspace<G> {
     /// Ends the workspace and its ring, and writes lift(0, 0, 0) into every word that it is lent. It refuses nothing.
     pub fn close(self, words: &mut [G::Word])
-        ensures { Wiped (model G.check G.redundancy G.root G.element G.meaning G.number self.ring) words.new }
+        ensures { Wiped (model G.GuardedRing self.ring) words.new }
     {
         wipe(&self.ring, words);
         let Workspace { ring, table } = self;

@@ -1,5 +1,5 @@
 ghost use Rattle.std.specs.Prelude.{◌≡◌, length, OnErr};
-ghost use Rattle.guarded.specs.Model.{guarded as model};
+ghost use Rattle.guarded.specs.Model.{model};
 ghost use Rattle.histories.specs.Calls.{part, release as releasing};
 ghost use Rattle.histories.specs.Serves.{Serves};
 ghost use Rattle.histories.specs.Answers.{handed};
@@ -26,10 +26,10 @@ impl<G: GuardedRing> Workspace<G> {
         out: &mut [u16],
         scratch: &mut [u32],
     ) -> Result<Form, Refusal>
-        ensures serves { Serves (model G.check G.redundancy G.root G.element G.meaning G.number self.now.ring) (state self.now.table) (length words.now) (part words.now) (releasing r (length out.old) (length scratch.old)) (handed result out.new) (state self.now.table) (part words.now) }
+        ensures serves { Serves (model G.GuardedRing self.now.ring) (state self.now.table) (length words.now) (part words.now) (releasing r (length out.old) (length scratch.old)) (handed result out.new) (state self.now.table) (part words.now) }
         ensures keeps { OnErr result (out.new ≡ out.old) }
         ensures cleaned { Cleaned scratch.old scratch.new }
-        ensures judged { Judged (model G.check G.redundancy G.root G.element G.meaning G.number self.now.ring) (state self.now.table) words.now (releasing r (length out.old) (length scratch.old)) (handed result out.new) }
+        ensures judged { Judged (model G.GuardedRing self.now.ring) (state self.now.table) words.now (releasing r (length out.old) (length scratch.old)) (handed result out.new) }
     {
         let n = scratch.len();
         if n != 256 {

@@ -1,5 +1,5 @@
 ghost use Rattle.std.specs.Prelude.{◌≡◌, ◌==◌};
-ghost use Rattle.guarded.specs.Model.{guarded as model};
+ghost use Rattle.guarded.specs.Model.{model};
 ghost use Rattle.histories.specs.Theorem.{Stands};
 
 use super::Workspace;
@@ -12,7 +12,7 @@ impl<G: GuardedRing> Workspace<G> {
     /// Its contract is the theorem over every history of calls and strikes of these two.
     pub fn comparable<H: GuardedRing>(&self, other: &Workspace<H>) -> bool
         ensures answers { result ≡ (G.check self.now.ring == H.check other.now.ring) }
-        ensures stands { Stands (model G.check G.redundancy G.root G.element G.meaning G.number self.now.ring) (model H.check H.redundancy H.root H.element H.meaning H.number other.now.ring) }
+        ensures stands { Stands (model G.GuardedRing self.now.ring) (model H.GuardedRing other.now.ring) }
     {
         self.ring.check_modulus() == other.ring.check_modulus()
     }
