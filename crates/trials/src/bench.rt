@@ -84,16 +84,10 @@ pub(crate) fn turn<G: GuardedRing>(
     r: u8,
     mask: u8,
 ) -> Result<(), Refusal> {
-    let list = [mask];
-    for number in 1..8 {
-        let masks = if number == 7 {
-            &list[0..0]
-        } else {
-            &list[0..1]
-        };
-        layer(space, words, way, r, masks)?;
+    for _ in 1..7 {
+        layer(space, words, way, r, &[mask])?;
     }
-    Ok(())
+    layer(space, words, way, r, &[])
 }
 
 /// Releases register r, and hands back the form and the numbers.
@@ -176,15 +170,27 @@ fn answer_all(
     words: &mut [u32; 2048],
     steps: &[(Step, Option<Refusal>)],
 ) -> Result<(), Fail> {
-    for i in 0..steps.len() {
-        let (step, expected) = steps[i];
+    for (i, (step, expected)) in steps.iter().enumerate() {
         let before = *words;
-        assert_eq!(rt; answer(space, words, step).err(), expected, "step {i}");
+        assert_eq!(rt; answer(space, words, *step).err(), *expected, "step {i}");
         if expected.is_some() {
             assert!(rt; *words == before, "step {i}");
         }
     }
     Ok(())
+}
+
+/// Runs a part of a test in a new workspace whose words are all this word, and closes the workspace.
+pub(crate) fn in_a_workspace<F>(p: u32, t: u8, word: u32, run: F) -> Result<(), Fail>
+where
+    F: FnOnce(&mut Workspace<Redundant>, &mut [u32; 2048]) -> Result<(), Fail>,
+    requires { F.IsAlwaysCallable run }
+{
+    let mut space = Workspace::open(Redundant::approve(p, t)?);
+    let mut words = [word; 2048];
+    let answer = run(&mut space, &mut words);
+    space.close(&mut words);
+    answer
 }
 
 /// Carries out the steps in a new workspace; each has to be refused as said beside it, or accepted.
@@ -194,9 +200,10 @@ pub(crate) fn play(
     t: u8,
     steps: &[(Step, Option<Refusal>)],
 ) -> Result<(), Fail> {
-    let mut space = Workspace::open(Redundant::approve(p, t)?);
-    let mut words = [4294967295u32; 2048];
-    let answer = answer_all(rt, &mut space, &mut words, steps);
-    space.close(&mut words);
-    answer
+    in_a_workspace(
+        p,
+        t,
+        4294967295,
+        |space, words| answer_all(rt, space, words, steps),
+    )
 }

@@ -1,8 +1,9 @@
-use crate::bench::{layer, load, released, shift};
+use crate::bench::{in_a_workspace, layer, load, released, shift};
 use algebra::Direction;
 use guarded::Redundant;
 use histories::{Form, Kind};
 use rings::Refusal;
+use std::array;
 use std::process::Abort;
 use std::test::Fail;
 use workspace::Workspace;
@@ -16,19 +17,11 @@ const INVERSE: [usize; 7] = [128, 64, 32, 16, 8, 4, 0];
 const STRUCK: [u16; 8] = [0, 1, 37, 128, 200, 254, 131, 255];
 
 fn polynomial() -> [u16; 256] {
-    let mut f = [0u16; 256];
-    for k in 0..256 {
-        f[k] = 13 * k as u16;
-    }
-    f
+    array::from_fn(|k| 13 * k as u16)
 }
 
 fn masks() -> [u8; 128] {
-    let mut list = [0u8; 128];
-    for k in 0..128 {
-        list[k] = 255 - k as u8;
-    }
-    list
+    array::from_fn(|k| 255 - k as u8)
 }
 
 // Runs the seven layers of register 0, with a strike after so many of them; after 8 there is none.
@@ -39,15 +32,15 @@ fn run(
     boundary: usize,
 ) -> Result<(), Refusal> {
     let list = masks();
-    for done in 0..7 {
+    let counts = match way {
+        Direction::Forward => FORWARD,
+        Direction::Inverse => INVERSE,
+    };
+    for (done, count) in counts.iter().enumerate() {
         if done == boundary {
             shift(words, STRUCK[done])?;
         }
-        let count = match way {
-            Direction::Forward => FORWARD[done],
-            Direction::Inverse => INVERSE[done],
-        };
-        layer(space, words, way, 0, &list[0..count.min(128)])?;
+        layer(space, words, way, 0, &list[0..(*count).min(128)])?;
     }
     if boundary == 7 {
         shift(words, STRUCK[7])?;
@@ -96,9 +89,5 @@ fn there_and_back(
 
 #[test]
 fn a_strike_at_any_boundary_of_the_layers_is_found(rt: HostRuntime) -> Result<(), Fail> {
-    let mut space = Workspace::open(Redundant::approve(7681, 3)?);
-    let mut words = [0u32; 2048];
-    let answer = there_and_back(&rt, &mut space, &mut words);
-    space.close(&mut words);
-    answer
+    in_a_workspace(7681, 3, 0, |space, words| there_and_back(&rt, space, words))
 }

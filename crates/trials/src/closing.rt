@@ -1,3 +1,4 @@
+use crate::bench::in_a_workspace;
 use guarded::{Pair, Redundant, Residues};
 use std::process::Abort;
 use std::test::Fail;
@@ -12,9 +13,7 @@ fn refresh_and_clear(
     assert!(rt; words[1791] == 9 && words[1792] == 1 && words[2047] == 1);
     space.refresh(words, 7, &[2; 256])?;
     // lift(1, 1, 2) is 1 + 2 * 25570049
-    for k in 0..256 {
-        assert!(rt; words[1792 + k] == 51140099);
-    }
+    assert!(rt; words[1792..2048].iter().all(|w| *w == 51140099));
     assert!(rt; words[0] == 9 && words[1791] == 9);
     let before = *words;
     space.clear(words, 7)?;
@@ -24,11 +23,12 @@ fn refresh_and_clear(
 
 #[test]
 fn refresh_renumbers_the_words_and_clear_leaves_them(rt: HostRuntime) -> Result<(), Fail> {
-    let mut space = Workspace::open(Redundant::approve(7681, 3)?);
-    let mut words = [9u32; 2048];
-    let answer = refresh_and_clear(&rt, &mut space, &mut words);
-    space.close(&mut words);
-    answer
+    in_a_workspace(
+        7681,
+        3,
+        9,
+        |space, words| refresh_and_clear(&rt, space, words),
+    )
 }
 
 #[test]
