@@ -1,25 +1,24 @@
 ghost use Rattle.std.specs.Prelude.{◌≡◌, length, IfOk};
 ghost use Rattle.guarded.specs.Model.{model};
-ghost use Rattle.histories.specs.Calls.{part, load, turn, join, refresh, release, polynomial};
+ghost use Rattle.histories.specs.Calls.{part, load, turn, join as joining, refresh, release, polynomial};
 ghost use Rattle.histories.specs.Answers.{complaint};
 ghost use Rattle.records.specs.Tables.{state};
 ghost use Rattle.records.specs.Turns.{Turns};
+ghost use Rattle.records.specs.Joins.{Joins};
 ghost use Rattle.workspace.specs.Verdicts.{judgement};
 ghost use Rattle.histories.specs.Kinds.{operation_of};
 
 use algebra::Direction;
 use guarded::GuardedRing;
-use histories::{Form, Operation};
-use records::Table;
-use records::checks::{check_load, check_refresh, check_release, check_turn};
-use records::joins::check_join;
+use histories::{Index, Join, Operation};
+use records::{Table, Turn, check_join, check_load, check_refresh, check_release, check_turn};
 use registers::{residues_agree, test_register};
 use rings::{Refusal, Ring};
 use witness::residues_due;
 
 // Each function here makes all the checks of a call: those of its arguments and the records, then those of the words.
 
-/// What a load is refused for.
+/// What a load is refused for; else its register.
 pub(crate) fn may_load<G: GuardedRing>(
     ring: &G,
     table: &Table,
@@ -28,8 +27,9 @@ pub(crate) fn may_load<G: GuardedRing>(
     xs: &[u16],
     c: u32,
     bytes: &[u8],
-) -> Result<(), Refusal>
-    ensures { complaint result ≡ judgement (model G.GuardedRing ring.now) (state table.now) (length words.now) (part words.now) (load polynomial r xs.now c bytes.now) }
+) -> Result<Index, Refusal>
+    ensures says { complaint result ≡ judgement (model G.GuardedRing ring.now) (state table.now) (length words.now) (part words.now) (load polynomial r xs.now c bytes.now) }
+    ensures found { IfOk result (λ register. register.number ≡ r) }
 {
     check_load(
         table,
@@ -43,7 +43,7 @@ pub(crate) fn may_load<G: GuardedRing>(
     )
 }
 
-/// What a layer is refused for; else its number and the form that it leaves.
+/// What a layer is refused for; else its register, its number and the form that it leaves.
 pub(crate) fn may_turn<G: GuardedRing>(
     ring: &G,
     table: &Table,
@@ -51,16 +51,16 @@ pub(crate) fn may_turn<G: GuardedRing>(
     way: Direction,
     r: u8,
     masks: &[u8],
-) -> Result<(u8, Form), Refusal>
+) -> Result<Turn, Refusal>
     ensures says { complaint result ≡ judgement (model G.GuardedRing ring.now) (state table.now) (length words.now) (part words.now) (turn way r masks.now) }
-    ensures found { IfOk result (λ x. Turns (state table.now) way r masks.now x.0 x.1) }
+    ensures found { IfOk result (Turns (state table.now) way r masks.now) }
 {
-    let step = check_turn(table, words.len(), way, r, masks)?;
-    test_register(ring, words, r)?;
-    Ok(step)
+    let turn = check_turn(table, words.len(), way, r, masks)?;
+    test_register(ring, words, turn.register)?;
+    Ok(turn)
 }
 
-/// What a sum, difference or product is refused for.
+/// What a sum, difference or product is refused for; else its registers.
 pub(crate) fn may_join<G: GuardedRing>(
     ring: &G,
     table: &Table,
@@ -69,29 +69,33 @@ pub(crate) fn may_join<G: GuardedRing>(
     d: u8,
     a: u8,
     b: u8,
-) -> Result<(), Refusal>
-    ensures { complaint result ≡ judgement (model G.GuardedRing ring.now) (state table.now) (length words.now) (part words.now) (join (operation_of operation) d a b) }
+) -> Result<Join, Refusal>
+    ensures says { complaint result ≡ judgement (model G.GuardedRing ring.now) (state table.now) (length words.now) (part words.now) (joining (operation_of operation) d a b) }
+    ensures found { IfOk result (Joins operation d a b) }
 {
-    check_join(table, operation, words.len(), d, a, b)?;
-    test_register(ring, words, a)?;
-    test_register(ring, words, b)
+    let join = check_join(table, operation, words.len(), d, a, b)?;
+    test_register(ring, words, join.a)?;
+    test_register(ring, words, join.b)?;
+    Ok(join)
 }
 
-/// What a refresh is refused for.
+/// What a refresh is refused for; else its register.
 pub(crate) fn may_refresh<G: GuardedRing>(
     ring: &G,
     table: &Table,
     words: &[G::Word],
     r: u8,
     bytes: &[u8],
-) -> Result<(), Refusal>
-    ensures { complaint result ≡ judgement (model G.GuardedRing ring.now) (state table.now) (length words.now) (part words.now) (refresh r bytes.now) }
+) -> Result<Index, Refusal>
+    ensures says { complaint result ≡ judgement (model G.GuardedRing ring.now) (state table.now) (length words.now) (part words.now) (refresh r bytes.now) }
+    ensures found { IfOk result (λ register. register.number ≡ r) }
 {
-    check_refresh(table, ring.redundancy_number(), words.len(), r, bytes)?;
-    test_register(ring, words, r)
+    let register = check_refresh(table, ring.redundancy_number(), words.len(), r, bytes)?;
+    test_register(ring, words, register)?;
+    Ok(register)
 }
 
-/// What a release is refused for; else the form of what is released. The numbers that the register has to hold modulo p are written
+/// What a release is refused for; else its register. The numbers that the register has to hold modulo p are written
 /// into the scratch.
 pub(crate) fn may_release<G: GuardedRing>(
     ring: &G,
@@ -100,14 +104,13 @@ pub(crate) fn may_release<G: GuardedRing>(
     r: u8,
     out: usize,
     scratch: &mut [u32],
-) -> Result<Form, Refusal>
+) -> Result<Index, Refusal>
     ensures says { complaint result ≡ judgement (model G.GuardedRing ring.now) (state table.now) (length words.now) (part words.now) (release r out (length scratch.old)) }
-    ensures form { IfOk result (λ F. F ≡ ((state table.now).registers r).form) }
+    ensures found { IfOk result (λ register. register.number ≡ r) }
 {
-    check_release(table, words.len(), out, scratch.len(), r)?;
-    test_register(ring, words, r)?;
-    let x = table.record_of(r);
-    residues_due(ring, x.form, x.a, x.b, scratch);
-    residues_agree(ring, words, r, scratch)?;
-    Ok(x.form)
+    let register = check_release(table, words.len(), out, scratch.len(), r)?;
+    test_register(ring, words, register)?;
+    residues_due(ring, table.record_of(register), scratch);
+    residues_agree(ring, words, register, scratch)?;
+    Ok(register)
 }

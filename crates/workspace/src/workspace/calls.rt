@@ -10,11 +10,10 @@ ghost use Rattle.histories.specs.Kinds.{kind_of, operation_of};
 use super::Workspace;
 use crate::verdict::{may_join, may_load, may_refresh, may_turn};
 use algebra::Direction;
+use engine::MaskedLayer;
 use guarded::GuardedRing;
 use histories::{Kind, Operation};
-use records::Table;
-use records::checks::check_clear;
-use records::table::changes::loaded_form;
+use records::{Table, check_clear, loaded};
 use registers::{join_registers, load_register, refresh_register, turn_register};
 use rings::{Refusal, Ring};
 use witness::residues_due;
@@ -73,11 +72,11 @@ impl<G: GuardedRing> Workspace<G> {
         ensures keeps { self.new.ring ≡ self.old.ring }
         ensures serves { Serves (model G.GuardedRing self.old.ring) (state self.old.table) (length words.old) (part words.old) (loading (kind_of kind) r xs.now c bytes.now) (told result) (state self.new.table) (part words.new) }
     {
-        may_load(&self.ring, &self.table, words, r, xs, c, bytes)?;
+        let register = may_load(&self.ring, &self.table, words, r, xs, c, bytes)?;
         let mut checks = [0u32; 256];
-        residues_due(&self.ring, loaded_form(kind), c, 0, &mut checks);
-        load_register(&self.ring, words, r, xs, &checks, bytes);
-        self.table.load(r, kind, c);
+        residues_due(&self.ring, loaded(kind, c), &mut checks);
+        load_register(&self.ring, words, register, xs, &checks, bytes);
+        self.table.load(register, kind, c);
         Ok(())
     }
 
@@ -107,10 +106,14 @@ impl<G: GuardedRing> Workspace<G> {
         ensures keeps { self.new.ring ≡ self.old.ring }
         ensures serves { Serves (model G.GuardedRing self.old.ring) (state self.old.table) (length words.old) (part words.old) (turning way r masks.now) (told result) (state self.new.table) (part words.new) }
     {
-        let (layer, next) = may_turn(&self.ring, &self.table, words, way, r, masks)?;
-        let before = self.table.incoming(layer);
-        turn_register(&self.ring, words, r, way, layer, before, masks);
-        self.table.advance(r, next, masks);
+        let turn = may_turn(&self.ring, &self.table, words, way, r, masks)?;
+        let masked = MaskedLayer {
+            layer: turn.layer,
+            before: self.table.incoming(turn.layer),
+            list: masks,
+        };
+        turn_register(&self.ring, words, turn.register, way, &masked);
+        self.table.advance(turn.register, turn.next, masks);
         Ok(())
     }
 
@@ -149,10 +152,9 @@ impl<G: GuardedRing> Workspace<G> {
         ensures keeps { self.new.ring ≡ self.old.ring }
         ensures serves { Serves (model G.GuardedRing self.old.ring) (state self.old.table) (length words.old) (part words.old) (joining (operation_of operation) d a b) (told result) (state self.new.table) (part words.new) }
     {
-        may_join(&self.ring, &self.table, words, operation, d, a, b)?;
-        join_registers(&self.ring, operation, words, d, a, b);
-        let p = self.ring.check_modulus();
-        self.table.join(operation, p, d, a, b);
+        let join = may_join(&self.ring, &self.table, words, operation, d, a, b)?;
+        join_registers(&self.ring, words, join);
+        self.table.join(self.ring.check_modulus(), join);
         Ok(())
     }
 
@@ -161,8 +163,8 @@ impl<G: GuardedRing> Workspace<G> {
         ensures keeps { self.new.ring ≡ self.old.ring }
         ensures serves { Serves (model G.GuardedRing self.old.ring) (state self.old.table) (length words.old) (part words.old) (refreshing r bytes.now) (told result) (state self.new.table) (part words.new) }
     {
-        may_refresh(&self.ring, &self.table, words, r, bytes)?;
-        refresh_register(&self.ring, words, r, bytes);
+        let register = may_refresh(&self.ring, &self.table, words, r, bytes)?;
+        refresh_register(&self.ring, words, register, bytes);
         Ok(())
     }
 
@@ -171,8 +173,8 @@ impl<G: GuardedRing> Workspace<G> {
         ensures keeps { self.new.ring ≡ self.old.ring }
         ensures serves { Serves (model G.GuardedRing self.old.ring) (state self.old.table) (length words.old) (part words.old) (clearing r) (told result) (state self.new.table) (part words.new) }
     {
-        check_clear(words.len(), r)?;
-        self.table.clear(r);
+        let register = check_clear(words.len(), r)?;
+        self.table.clear(register);
         Ok(())
     }
 }

@@ -12,7 +12,7 @@ use crate::scratch::Scratch;
 use crate::verdict::may_release;
 use guarded::GuardedRing;
 use histories::Form;
-use records::checks::check_release;
+use records::check_release;
 use registers::hand_out;
 use rings::{Refusal, Ring};
 
@@ -37,8 +37,8 @@ impl<G: GuardedRing> Workspace<G> {
             unreachable()
         }
         let guard = Scratch(scratch);
-        let form = may_release(&self.ring, &self.table, words, r, out.len(), guard.0)?;
-        hand_out(&self.ring, words, r, out);
-        Ok(form)
+        let register = may_release(&self.ring, &self.table, words, r, out.len(), guard.0)?;
+        hand_out(&self.ring, words, register, out);
+        Ok(self.table.record_of(register).form)
     }
 }
