@@ -12,8 +12,8 @@ use crate::verdict::{may_join, may_load, may_refresh, may_turn};
 use algebra::Direction;
 use engine::MaskedLayer;
 use guarded::GuardedRing;
-use histories::{Kind, Operation};
-use records::{Table, check_clear, loaded};
+use histories::{Kind, Operation, Register};
+use records::{Table, check_clear, loaded_form};
 use registers::{join_registers, load_register, refresh_register, turn_register};
 use rings::{Refusal, Ring};
 use witness::residues_due;
@@ -73,8 +73,14 @@ impl<G: GuardedRing> Workspace<G> {
         ensures serves { Serves (model G.GuardedRing self.old.ring) (state self.old.table) (length words.old) (part words.old) (loading (kind_of kind) r xs.now c bytes.now) (told result) (state self.new.table) (part words.new) }
     {
         let register = may_load(&self.ring, &self.table, words, r, xs, c, bytes)?;
+        let record = Register {
+            form: loaded_form(kind),
+            level: 1,
+            a: c,
+            b: 0,
+        };
         let mut checks = [0u32; 256];
-        residues_due(&self.ring, loaded(kind, c), &mut checks);
+        residues_due(&self.ring, record, &mut checks);
         load_register(&self.ring, words, register, xs, &checks, bytes);
         self.table.load(register, kind, c);
         Ok(())
