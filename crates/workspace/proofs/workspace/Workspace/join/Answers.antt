@@ -3,15 +3,15 @@ use Rattle.std.proofs.lemmas.Result.{err_from_is_err_and}
 use Rattle.guarded.specs.Model.{guarded}
 use Rattle.histories.specs.Calls.{join, part}
 use Rattle.records.specs.Tables.{state}
-use Rattle.workspace.proofs.Asked.{ruled, sound, lent_all, join_known, join_whole}
-use Rattle.workspace.proofs.Served.{refuses_at, joins_on}
+use Rattle.workspace.proofs.Asked.{ruled, sound, lent_all, join_whole}
+use Rattle.workspace.proofs.Served.{refuses_at, joined_as}
 use Rattle.histories.specs.Kinds.{operation_of}
 use Rattle.workspace.proofs.workspace.Workspace.join.Goals as goal
 
-pub returns-in_err-may_join : goal.returns-in_err-may_join
-returns-in_err-may_join g c =
+pub returns-in_err-join : goal.returns-in_err-join
+returns-in_err-join g c =
     let p = err_from_is_err_and c.from_residual.result c.from_residual.ensures.1 in
-    record { keeps = refl; serves = rw (p.1, p.2) (refuses_at _ _ _ _ _ c.in_err-may_join.ensures) }
+    record { keeps = refl; serves = rw (p.1, p.2) (refuses_at _ _ _ _ _ c.in_err-join.ensures.says) }
 
 pub join_registers-requires : goal.join_registers-requires
 join_registers-requires g c =
@@ -21,14 +21,13 @@ join_registers-requires g c =
     let model = guarded h.check h.redundancy r.root r.element r.meaning h.number ring in
     let s = state c.args.self.now.table in
     let call = join (operation_of c.args.operation) c.args.d c.args.a c.args.b in
-    let ok = c.in_ok-may_join.ensures in
+    let ok = c.in_ok-join.ensures.says in
     let q = ruled model s _ (part c.args.words.now) call ok in
     let words = sound model s _ (part c.args.words.now) call ok in
     record {
       size = lent_all model.p model.t s.registers _ call q;
-      known = join_known model.p model.t s.registers _ (operation_of c.args.operation) c.args.d c.args.a c.args.b q;
-      left = words.0;
-      right = words.1.0;
+      left = rw c.in_ok-join.ensures.found.a_is words.0;
+      right = rw c.in_ok-join.ensures.found.b_is words.1.0;
     }
 
 pub join-requires : goal.join-requires
@@ -39,18 +38,18 @@ join-requires g c =
     let model = guarded h.check h.redundancy r.root r.element r.meaning h.number ring in
     let s = state c.args.self.now.table in
     let call = join (operation_of c.args.operation) c.args.d c.args.a c.args.b in
-    let q = ruled model s _ (part c.args.words.now) call c.in_ok-may_join.ensures in
+    let q = ruled model s _ (part c.args.words.now) call c.in_ok-join.ensures.says in
     let law = g.met.G.GuardedRing.lawful ring in
     record {
-      modulus = omega (arith, law.above, c.check_modulus-p.ensures);
-      known = join_known model.p model.t s.registers _ (operation_of c.args.operation) c.args.d c.args.a c.args.b q;
-      entire = join_whole model.p model.t s.registers _ (operation_of c.args.operation) c.args.d c.args.a c.args.b q;
+      modulus = omega (arith, law.above, c.check_modulus.ensures);
+      entire =
+          rw c.in_ok-join.ensures.found.a_is (join_whole model.p model.t s.registers _ (operation_of c.args.operation) c.args.d c.args.a c.args.b q);
     }
 
 pub returns : goal.returns
 returns g c = record {
   keeps = refl;
   serves =
-      joins_on _ _ _ _ _ _ _ _ _ _ c.in_ok-may_join.ensures c.check_modulus-p.ensures c.join.ensures c.join_registers.ensures.only
-      c.join_registers.ensures.means;
+      joined_as _ _ _ _ _ _ _ _ _ _ _ c.in_ok-join.ensures.says c.in_ok-join.ensures.found c.check_modulus.ensures c.join.ensures
+      c.join_registers.ensures.only c.join_registers.ensures.means;
 }

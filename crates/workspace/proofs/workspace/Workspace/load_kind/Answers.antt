@@ -1,20 +1,21 @@
-use Rattle.std.proofs.Common.{refl, ap, ◌∙◌, arith}
+use Rattle.std.proofs.Common.{ℕ, refl, ap, ◌∙◌, arith}
 use Rattle.std.proofs.lemmas.Result.{err_from_is_err_and}
 use Rattle.guarded.specs.Model.{guarded}
 use Rattle.histories.specs.declared.register.Form.{Form}
 use Rattle.histories.specs.Operations.{witness}
 use Rattle.histories.specs.Forms.{in_form}
 use Rattle.histories.specs.Calls.{load, part, checks, polynomial}
+use Rattle.histories.specs.Serves.{done}
 use Rattle.records.specs.Tables.{state}
-use Rattle.workspace.proofs.Asked.{ruled, lent_all, load_sizes, load_known, load_range, load_digits, due_low}
-use Rattle.workspace.proofs.Served.{refuses_at, loads}
+use Rattle.workspace.proofs.Asked.{ruled, lent_all, load_sizes, load_range, load_digits, due_low}
+use Rattle.workspace.proofs.Served.{refuses_at, at_register, loads}
 use Rattle.histories.specs.Kinds.{kind_of}
 use Rattle.workspace.proofs.workspace.Workspace.load_kind.Goals as goal
 
-pub returns-in_err-may_load : goal.returns-in_err-may_load
-returns-in_err-may_load g c =
+pub returns-in_err-register : goal.returns-in_err-register
+returns-in_err-register g c =
     let p = err_from_is_err_and c.from_residual.result c.from_residual.ensures.1 in
-    record { keeps = refl; serves = rw (p.1, p.2) (refuses_at _ _ _ _ _ c.in_err-may_load.ensures) }
+    record { keeps = refl; serves = rw (p.1, p.2) (refuses_at _ _ _ _ _ c.in_err-register.ensures.says) }
 
 pub load_register-requires : goal.load_register-requires
 load_register-requires g c =
@@ -24,10 +25,10 @@ load_register-requires g c =
     let model = guarded h.check h.redundancy r.root r.element r.meaning h.number ring in
     let s = state c.args.self.now.table in
     let call = load polynomial c.args.r c.args.xs.now c.args.c c.args.bytes.now in
-    let q = ruled model s _ (part c.args.words.now) call c.in_ok-may_load.ensures in
+    let q = ruled model s _ (part c.args.words.now) call c.in_ok-register.ensures.says in
     let sizes = load_sizes model.p model.t s.registers _ polynomial c.args.r c.args.xs.now c.args.c c.args.bytes.now q in
     record {
-      room = (lent_all model.p model.t s.registers _ call q, load_known model.p model.t s.registers _ polynomial c.args.r c.args.xs.now c.args.c c.args.bytes.now q);
+      room = lent_all model.p model.t s.registers _ call q;
       sizes = (sizes.0, (omega arith, sizes.1));
       range = load_range model.p model.t s.registers _ polynomial c.args.r c.args.xs.now c.args.c c.args.bytes.now q;
       checks = due_low model (g.met.G.GuardedRing.lawful ring) _ _ _ _ c.residues_due.ensures;
@@ -43,7 +44,10 @@ returns g c =
     record {
       keeps = refl;
       serves =
-          loads model _ _ _ _ (kind_of c.args.kind) _ _ _ _ _ c.in_ok-may_load.ensures c.load.ensures c.load_register.ensures.only
+          at_register model _ _ _ _ (λ (r : ℕ). load (kind_of c.args.kind) r c.args.xs.now c.args.c c.args.bytes.now) done _ _ c.in_ok-register.ensures.found
+          (λ k.
+          loads model _ _ _ _ (kind_of c.args.kind) _ _ _ _ _ k c.load.ensures c.load_register.ensures.only
           (c.residues_due.ensures ∙ ap (λ (F : Form). in_form (checks model) F (witness (checks model) c.args.c 0)) c.loaded_form.ensures)
-          c.load_register.ensures.holds;
+          c.load_register.ensures.holds)
+          c.in_ok-register.ensures.says;
     }

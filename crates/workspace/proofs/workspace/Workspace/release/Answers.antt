@@ -1,14 +1,16 @@
-use Rattle.std.proofs.Common.{refl}
+use Rattle.std.proofs.Common.{ℕ, length, refl, ap}
 use Rattle.std.proofs.lemmas.Result.{err_from_is_err_and}
+use Rattle.histories.specs.declared.register.Register.{Register}
+use Rattle.histories.specs.Calls.{release}
 use Rattle.workspace.proofs.Asked.{or_some}
-use Rattle.workspace.proofs.Served.{refuses_at, releases, judged}
+use Rattle.workspace.proofs.Served.{refuses_at, at_register, releases, judged}
 use Rattle.workspace.proofs.workspace.Workspace.release.Goals as goal
 
 pub returns-in_err-check_release : goal.returns-in_err-check_release
 returns-in_err-check_release g c =
     let law = g.met.G.GuardedRing.lawful c.args.self.now.ring in
     let p = err_from_is_err_and c.from_residual.result c.from_residual.ensures.1 in
-    let served = refuses_at _ _ _ _ _ (or_some _ _ _ c.in_err-check_release.ensures) in
+    let served = refuses_at _ _ _ _ _ (or_some _ _ _ c.in_err-check_release.ensures.says) in
     record {
       serves = rw (p.1, p.2) served;
       keeps = rw p.1 refl;
@@ -16,11 +18,11 @@ returns-in_err-check_release g c =
       judged = rw (p.1, p.2) (judged _ _ _ law _ _ served);
     }
 
-pub returns-in_err-form : goal.returns-in_err-form
-returns-in_err-form g c =
+pub returns-in_err-register : goal.returns-in_err-register
+returns-in_err-register g c =
     let law = g.met.G.GuardedRing.lawful c.args.self.now.ring in
-    let p = err_from_is_err_and c.from_residual-in_err-form.result c.from_residual-in_err-form.ensures.1 in
-    let served = refuses_at _ _ _ _ _ c.in_err-form.ensures.says in
+    let p = err_from_is_err_and c.from_residual-in_err-register.result c.from_residual-in_err-register.ensures.1 in
+    let served = refuses_at _ _ _ _ _ c.in_err-register.ensures.says in
     record {
       serves = rw (p.1, p.2) served;
       keeps = rw p.1 refl;
@@ -31,7 +33,9 @@ returns-in_err-form g c =
 pub returns : goal.returns
 returns g c =
     let law = g.met.G.GuardedRing.lawful c.args.self.now.ring in
-    let served = releases _ _ _ _ _ _ _ _ c.in_ok-form.ensures.says c.in_ok-form.ensures.form c.hand_out.ensures in
+    let served =
+        at_register _ _ _ _ _ (λ (r : ℕ). release r (length c.args.out.now) (length c.args.scratch.now)) _ _ _ c.in_ok-register.ensures.found
+        (λ h. releases _ _ _ _ _ _ _ _ h (ap (λ (x : Register). x.form) c.record_of.ensures) c.hand_out.ensures) c.in_ok-register.ensures.says in
     record {
       serves = served;
       keeps = tt;
