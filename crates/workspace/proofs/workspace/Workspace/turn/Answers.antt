@@ -1,5 +1,9 @@
 use Rattle.std.proofs.Common.{refl}
 use Rattle.std.proofs.lemmas.Result.{err_from_is_err_and}
+use Rattle.guarded.specs.Model.{guarded}
+use Rattle.histories.specs.Calls.{part, turn}
+use Rattle.records.specs.Tables.{state}
+use Rattle.workspace.proofs.Asked.{sound}
 use Rattle.workspace.proofs.Served.{refuses_at, turned}
 use Rattle.workspace.proofs.workspace.Workspace.turn.Goals as goal
 
@@ -7,6 +11,14 @@ pub returns-in_err-turn : goal.returns-in_err-turn
 returns-in_err-turn g c =
     let p = err_from_is_err_and c.from_residual.result c.from_residual.ensures.1 in
     record { keeps = refl; serves = rw (p.1, p.2) (refuses_at _ _ _ _ _ c.in_err-turn.ensures.says) }
+
+pub turn_register-requires-clause-tested : goal.turn_register-requires-clause-tested
+turn_register-requires-clause-tested g c =
+    let r = g.G.Ring in
+    let h = g.G.GuardedRing in
+    let model = guarded h.check h.redundancy r.root r.element r.meaning h.number c.args.self.now.ring in
+    rw c.in_ok-turn.ensures.found.register_is
+    (sound model (state c.args.self.now.table) _ (part c.args.words.now) (turn c.args.way c.args.r c.args.masks.now) c.in_ok-turn.ensures.says).0
 
 pub returns : goal.returns
 returns g c = record {
