@@ -45,7 +45,7 @@ pub fn refresh_register<G: GuardedRing>(ring: &G, words: &mut [G::Word], r: Inde
     ensures numbers { Numbered (model G.GuardedRing ring.now) bytes.now (part words.new r.number) }
 {
     let base = 256 * r.number as usize;
-    // An index counts here too: a word is written from itself and the byte at its place.
+    // An index counts, since a proof knows only the length of what `iter_mut` with `zip` wrote.
     for k in 0..256 {
         let (s, c) = ring.split(words[base + k]);
         words[base + k] = ring.lift(s, c, bytes[k]);

@@ -1,6 +1,5 @@
 use Rattle.std.proofs.Common.{mod-lt, arith, lit<}
 use Rattle.rings.proofs.Flaws.{low_at}
-use Rattle.guarded.specs.Model.{guarded}
 use Rattle.registers.proofs.Rows.{filled_none, filled_more, filled_all, only_filled}
 use Rattle.registers.proofs.Reading.{old_read, old_sound}
 use Rattle.registers.proofs.Lifting.{renumber, renumbered_means, renumbered_numbers}
@@ -25,11 +24,8 @@ lift-requires g c =
 
 pub loop-k-preserved : goal.loop-k-preserved
 loop-k-preserved g c =
-    let r = g.G.Ring in
-    let h = g.G.GuardedRing in
-    let model = guarded h.check h.redundancy r.root r.element r.meaning h.number c.args.ring.now in
     filled_more _ c.loop-k.k _ _ _ _ (omega arith) c.loop-k.invariant
-    (renumber model c.args.words.now c.args.r.number c.loop-k.k c.args.bytes.now c.index-words-base.result c.lift.result _ _
+    (renumber _ c.args.words.now c.args.r.number c.loop-k.k c.args.bytes.now c.index-words-base.result c.lift.result _ _
     (λ d. old_read c.args.r.number c.args.r.number c.loop-k.k c.loop-k.k _ _ _ _ d c.loop-k.invariant (omega arith) c.loop-k-test.true (omega arith) c.index-words-base.is)
     c.split-s.ensures.coefficient c.split-s.ensures.check c.lift.ensures)
 

@@ -1,6 +1,5 @@
 use Rattle.std.proofs.Common.{◌+◌, ◌*◌, ◌<◌, arith}
 use Rattle.engine.proofs.Slots.{rev_small}
-use Rattle.guarded.specs.Model.{guarded}
 use Rattle.registers.proofs.Rows.{filled_none, filled_all, only_filled}
 use Rattle.registers.proofs.Reading.{old_read, old_sound}
 use Rattle.registers.proofs.Lists.{read_number}
@@ -18,24 +17,26 @@ overflow_add-reversed g c = omega (arith, rev_small 7 c.loop-slot.slot, c.revers
 
 pub slot_product-low-requires : goal.slot_product-low-requires
 slot_product-low-requires g c =
+    let j = c.args.join in
     let n = 2 * c.loop-slot.slot in
     let here : n < 256 = omega arith in
     let next : n + 1 < 256 = omega arith in
     let f = c.loop-slot.invariant in
     record {
       left = (
-        old_sound _ c.args.join.a.number c.args.join.d.number n n _ _ _ _ f (omega arith) here c.requires.size c.args.join.a.known c.requires.left c.index-words-left.is,
-        old_sound _ c.args.join.a.number c.args.join.d.number n (n + 1) _ _ _ _ f (omega arith) next c.requires.size c.args.join.a.known c.requires.left c.index-words-left-in-loop-slot.is,
+        old_sound _ j.a.number j.d.number n n _ _ _ _ f (omega arith) here c.requires.size j.a.known c.requires.left c.index-words-left.is,
+        old_sound _ j.a.number j.d.number n (n + 1) _ _ _ _ f (omega arith) next c.requires.size j.a.known c.requires.left c.index-words-left-in-loop-slot.is,
       );
       right = (
-        old_sound _ c.args.join.b.number c.args.join.d.number n n _ _ _ _ f (omega arith) here c.requires.size c.args.join.b.known c.requires.right c.index-words-right.is,
-        old_sound _ c.args.join.b.number c.args.join.d.number n (n + 1) _ _ _ _ f (omega arith) next c.requires.size c.args.join.b.known c.requires.right c.index-words-right-in-loop-slot.is,
+        old_sound _ j.b.number j.d.number n n _ _ _ _ f (omega arith) here c.requires.size j.b.known c.requires.right c.index-words-right.is,
+        old_sound _ j.b.number j.d.number n (n + 1) _ _ _ _ f (omega arith) next c.requires.size j.b.known c.requires.right c.index-words-right-in-loop-slot.is,
       );
       factor = c.power-c.ensures.stays;
     }
 
 pub loop-slot-preserved : goal.loop-slot-preserved
 loop-slot-preserved g c =
+    let j = c.args.join in
     let s = c.args.ring.now in
     let meaning = g.G.Ring.meaning s in
     let ws = c.args.words.now in
@@ -44,14 +45,14 @@ loop-slot-preserved g c =
     let next : n + 1 < 256 = omega arith in
     let slot : c.loop-slot.slot < 128 = omega arith in
     let f = c.loop-slot.invariant in
-    let a0 = read_number meaning ws c.args.join.a.number n _ c.requires.size c.args.join.a.known here
-    (λ e. old_read c.args.join.a.number c.args.join.d.number n n _ _ _ _ e f (omega arith) here (omega arith) c.index-words-left.is) in
-    let a1 = read_number meaning ws c.args.join.a.number (n + 1) _ c.requires.size c.args.join.a.known next
-    (λ e. old_read c.args.join.a.number c.args.join.d.number n (n + 1) _ _ _ _ e f (omega arith) next (omega arith) c.index-words-left-in-loop-slot.is) in
-    let b0 = read_number meaning ws c.args.join.b.number n _ c.requires.size c.args.join.b.known here
-    (λ e. old_read c.args.join.b.number c.args.join.d.number n n _ _ _ _ e f (omega arith) here (omega arith) c.index-words-right.is) in
-    let b1 = read_number meaning ws c.args.join.b.number (n + 1) _ c.requires.size c.args.join.b.known next
-    (λ e. old_read c.args.join.b.number c.args.join.d.number n (n + 1) _ _ _ _ e f (omega arith) next (omega arith) c.index-words-right-in-loop-slot.is) in
+    let a0 = read_number meaning ws j.a.number n _ c.requires.size j.a.known here
+    (λ e. old_read j.a.number j.d.number n n _ _ _ _ e f (omega arith) here (omega arith) c.index-words-left.is) in
+    let a1 = read_number meaning ws j.a.number (n + 1) _ c.requires.size j.a.known next
+    (λ e. old_read j.a.number j.d.number n (n + 1) _ _ _ _ e f (omega arith) next (omega arith) c.index-words-left-in-loop-slot.is) in
+    let b0 = read_number meaning ws j.b.number n _ c.requires.size j.b.known here
+    (λ e. old_read j.b.number j.d.number n n _ _ _ _ e f (omega arith) here (omega arith) c.index-words-right.is) in
+    let b1 = read_number meaning ws j.b.number (n + 1) _ c.requires.size j.b.known next
+    (λ e. old_read j.b.number j.d.number n (n + 1) _ _ _ _ e f (omega arith) next (omega arith) c.index-words-right-in-loop-slot.is) in
     let small = g.met.G.Ring.below s _ c.power-c.ensures.stays in
     slot_more _ c.loop-slot.slot _ _ _ _ _ (omega arith) slot f
     (record {
@@ -65,13 +66,11 @@ loop-slot-preserved g c =
 
 pub returns : goal.returns
 returns g c =
-    let r = g.G.Ring in
-    let h = g.G.GuardedRing in
+    let j = c.args.join in
     let s = c.args.ring.now in
-    let model = guarded h.check h.redundancy r.root r.element r.meaning h.number s in
     let f = filled_all _ (2 * c.loop-slot.slot) 256 _ _ _ (omega arith) c.loop-slot.invariant in
     record {
-      only = only_filled c.args.join.d.number _ _ _ f;
+      only = only_filled j.d.number _ _ _ f;
       means =
-          slot_products model (g.met.G.GuardedRing.lawful s) _ _ c.args.join.d.number c.args.join.a.number c.args.join.b.number c.requires.size c.args.join.d.known _ (g.met.G.GuardedRing.joint s) f;
+          slot_products _ (g.met.G.GuardedRing.lawful s) _ _ j.d.number j.a.number j.b.number c.requires.size j.d.known _ (g.met.G.GuardedRing.joint s) f;
     }
