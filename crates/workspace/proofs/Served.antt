@@ -2,6 +2,7 @@
 use Rattle.std.proofs.Common.{◌≡◌, ℕ, suc, Bool, true, false, cond, eqb, List, [], map, length, sym, refl, ap, ◌∙◌, subst}
 use mathlib.Core.Path.{fun_ext}
 use mathlib.Core.Option.{none, some}
+use Rattle.std.specs.Prelude.{Result, Ok, Err, IsErrAnd}
 use Rattle.std.proofs.lemmas.Bool.{eqb-true}
 use Rattle.algebra.specs.declared.Direction.{Direction}
 use Rattle.algebra.specs.declared.Direction.TheVariants.{Forward, Inverse}
@@ -19,6 +20,7 @@ use Rattle.histories.specs.declared.call.Operation as declared_operation
 use Rattle.histories.specs.Kinds.{operation_of}
 use Rattle.histories.specs.Calls.{State, part, Call, load, turn, join, refresh, clear, release, form_of, ruling, plains, checks, meanings, empty_record, Kind, Operation}
 use Rattle.histories.specs.Serves.{Answer, done, given, refused, put, loaded, joined, combined, Meaning, Numbered, verdict, Serves, accepts, refuses}
+use Rattle.histories.specs.Answers.{told}
 use Rattle.histories.specs.Ledger.{goes}
 use Rattle.histories.proofs.Whole.{whole}
 use Rattle.records.specs.Tables.{with_register, advanced, carried}
@@ -51,6 +53,12 @@ module _ {W : Type 0} (G : Guarded W) (s : State) (ws : List W) where
   pub refuses_at : (c : Call) (e : Refusal) → some e ≡ judgement G s (length ws) (part ws) c → Serves G s (length ws) (part ws) c (refused (number_of e) (place_of e)) s (part ws)
   unfolding verdict ruling
   refuses_at c e h = refuses e (sym h) refl refl refl
+
+  -- the same of the result that an `?` hands on
+  pub refuses_told : {X : Type 0} (c : Call) (why : Refusal) (r : Result X Refusal) → IsErrAnd r (λ e. e ≡ why) →
+      some why ≡ judgement G s (length ws) (part ws) c → Serves G s (length ws) (part ws) c (told r) s (part ws)
+  refuses_told c why (Ok x) q h = absurd q
+  refuses_told c why (Err e) q h = rw q (refuses_at c why h)
 
   module _ (s' : State) (ws' : List W) where
     -- the checks name the register q by its number r

@@ -18,6 +18,7 @@ use registers::{join_registers, load_register, refresh_register, turn_register};
 use rings::{Refusal, Ring};
 use witness::residues_due;
 
+// Each call says that its ring stays: Rust has no field that a `&mut self` cannot change.
 impl<G: GuardedRing> Workspace<G> {
     /// Opens a workspace on a ring and takes the ring over. All registers are empty.
     pub fn open(ring: G) -> Workspace<G>

@@ -1,15 +1,12 @@
 use Rattle.std.proofs.Common.{refl}
-use Rattle.std.proofs.lemmas.Result.{err_from_is_err_and}
 use Rattle.workspace.proofs.Asked.{or_none}
 use Rattle.histories.specs.Calls.{clear}
 use Rattle.histories.specs.Serves.{done}
-use Rattle.workspace.proofs.Served.{refuses_at, at_register, clears}
+use Rattle.workspace.proofs.Served.{refuses_told, at_register, clears}
 use Rattle.workspace.proofs.workspace.Workspace.clear.Goals as goal
 
 pub returns-in_err-register : goal.returns-in_err-register
-returns-in_err-register g c =
-    let p = err_from_is_err_and c.from_residual.result c.from_residual.ensures.1 in
-    record { keeps = refl; serves = rw (p.1, p.2) (refuses_at _ _ _ _ _ (or_none _ _ c.in_err-register.ensures.says)) }
+returns-in_err-register g c = record { keeps = refl; serves = refuses_told _ _ _ _ _ _ c.from_residual.ensures.1 (or_none _ _ c.in_err-register.ensures.says) }
 
 pub returns : goal.returns
 returns g c = record {

@@ -1,17 +1,14 @@
 use Rattle.std.proofs.Common.{refl, arith}
-use Rattle.std.proofs.lemmas.Result.{err_from_is_err_and}
 use Rattle.guarded.specs.Model.{guarded}
 use Rattle.histories.specs.Calls.{join, part}
 use Rattle.records.specs.Tables.{state}
 use Rattle.workspace.proofs.Asked.{ruled, sound, lent_all, join_whole}
-use Rattle.workspace.proofs.Served.{refuses_at, joined_as}
+use Rattle.workspace.proofs.Served.{refuses_told, joined_as}
 use Rattle.histories.specs.Kinds.{operation_of}
 use Rattle.workspace.proofs.workspace.Workspace.join.Goals as goal
 
 pub returns-in_err-join : goal.returns-in_err-join
-returns-in_err-join g c =
-    let p = err_from_is_err_and c.from_residual.result c.from_residual.ensures.1 in
-    record { keeps = refl; serves = rw (p.1, p.2) (refuses_at _ _ _ _ _ c.in_err-join.ensures.says) }
+returns-in_err-join g c = record { keeps = refl; serves = refuses_told _ _ _ _ _ _ c.from_residual.ensures.1 c.in_err-join.ensures.says }
 
 pub join_registers-requires : goal.join_registers-requires
 join_registers-requires g c =

@@ -1,5 +1,4 @@
 use Rattle.std.proofs.Common.{ℕ, refl, ap, ◌∙◌, arith}
-use Rattle.std.proofs.lemmas.Result.{err_from_is_err_and}
 use Rattle.guarded.specs.Model.{guarded}
 use Rattle.histories.specs.declared.register.Form.{Form}
 use Rattle.histories.specs.Operations.{witness}
@@ -8,14 +7,12 @@ use Rattle.histories.specs.Calls.{load, part, checks, polynomial}
 use Rattle.histories.specs.Serves.{done}
 use Rattle.records.specs.Tables.{state}
 use Rattle.workspace.proofs.Asked.{ruled, lent_all, load_sizes, load_range, load_digits, due_low}
-use Rattle.workspace.proofs.Served.{refuses_at, at_register, loads}
+use Rattle.workspace.proofs.Served.{refuses_told, at_register, loads}
 use Rattle.histories.specs.Kinds.{kind_of}
 use Rattle.workspace.proofs.workspace.Workspace.load_kind.Goals as goal
 
 pub returns-in_err-register : goal.returns-in_err-register
-returns-in_err-register g c =
-    let p = err_from_is_err_and c.from_residual.result c.from_residual.ensures.1 in
-    record { keeps = refl; serves = rw (p.1, p.2) (refuses_at _ _ _ _ _ c.in_err-register.ensures.says) }
+returns-in_err-register g c = record { keeps = refl; serves = refuses_told _ _ _ _ _ _ c.from_residual.ensures.1 c.in_err-register.ensures.says }
 
 pub load_register-requires : goal.load_register-requires
 load_register-requires g c =

@@ -1,16 +1,13 @@
 use Rattle.std.proofs.Common.{refl}
-use Rattle.std.proofs.lemmas.Result.{err_from_is_err_and}
 use Rattle.guarded.specs.Model.{guarded}
 use Rattle.histories.specs.Calls.{part, turn}
 use Rattle.records.specs.Tables.{state}
 use Rattle.workspace.proofs.Asked.{sound}
-use Rattle.workspace.proofs.Served.{refuses_at, turned}
+use Rattle.workspace.proofs.Served.{refuses_told, turned}
 use Rattle.workspace.proofs.workspace.Workspace.turn.Goals as goal
 
 pub returns-in_err-turn : goal.returns-in_err-turn
-returns-in_err-turn g c =
-    let p = err_from_is_err_and c.from_residual.result c.from_residual.ensures.1 in
-    record { keeps = refl; serves = rw (p.1, p.2) (refuses_at _ _ _ _ _ c.in_err-turn.ensures.says) }
+returns-in_err-turn g c = record { keeps = refl; serves = refuses_told _ _ _ _ _ _ c.from_residual.ensures.1 c.in_err-turn.ensures.says }
 
 pub turn_register-requires-clause-tested : goal.turn_register-requires-clause-tested
 turn_register-requires-clause-tested g c =
