@@ -3,6 +3,7 @@
 pub mod checks;
 pub(crate) mod forms;
 pub mod joins;
+mod modulus;
 pub mod table;
 pub mod turn;
 

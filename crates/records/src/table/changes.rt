@@ -8,6 +8,7 @@ ghost use Rattle.records.specs.Tables.{state, with_register, advanced, carried};
 ghost use Rattle.histories.specs.Kinds.{kind_of, operation_of};
 
 use super::Table;
+use crate::modulus::Modulus;
 use arrayvec::ArrayVec;
 use engine::Layer;
 use histories::{Form, Index, Join, Kind, Operation, Register};
@@ -26,54 +27,29 @@ pub fn loaded_form(kind: Kind) -> Form
     Form::from(kind)
 }
 
-// The sum of two numbers modulo p.
-fn sum(p: u32, c: u32, d: u32) -> u32
-    requires { 0 < p }
-    ensures { result ≡ (c + d) % p }
-{
-    ((c as u64 + d as u64) % p as u64) as u32
-}
-
-// The difference of two numbers modulo p.
-fn difference(p: u32, c: u32, d: u32) -> u32
-    requires { 0 < p }
-    ensures { result ≡ (c + (p - d)) % p }
-{
-    ((c as u64 + p.saturating_sub(d) as u64) % p as u64) as u32
-}
-
-// The product of two numbers modulo p.
-fn product(p: u32, c: u32, d: u32) -> u32
-    requires { 0 < p }
-    ensures { result ≡ (c * d) % p }
-{
-    ((c as u64 * d as u64) % p as u64) as u32
-}
-
 // The record of a result. The numbers of the witness are added, subtracted or multiplied modulo p.
-fn result(p: u32, operation: Operation, x: Register, y: Register) -> Register
-    requires { 0 < p }
-    ensures { result ≡ joined p (operation_of operation) x y }
+fn result(modulus: Modulus, operation: Operation, x: Register, y: Register) -> Register
+    ensures { result ≡ joined modulus.p (operation_of operation) x y }
 {
     let level = x.level.max(y.level);
     match operation {
         Operation::Plus => Register {
             form: x.form,
             level,
-            a: sum(p, x.a, y.a),
-            b: sum(p, x.b, y.b),
+            a: modulus.sum(x.a, y.a),
+            b: modulus.sum(x.b, y.b),
         },
         Operation::Minus => Register {
             form: x.form,
             level,
-            a: difference(p, x.a, y.a),
-            b: difference(p, x.b, y.b),
+            a: modulus.difference(x.a, y.a),
+            b: modulus.difference(x.b, y.b),
         },
         Operation::Times => Register {
             form: x.form,
             level: 2,
             a: 0,
-            b: product(p, x.a, y.a),
+            b: modulus.product(x.a, y.a),
         },
     }
 }
@@ -108,7 +84,7 @@ impl Table {
     {
         let x = self.record_of(join.a);
         let y = self.record_of(join.b);
-        self.records[join.d.number as usize] = result(p, join.operation, x, y);
+        self.records[join.d.number as usize] = result(Modulus { p }, join.operation, x, y);
     }
 
     /// Notes that a register is empty.
