@@ -30,6 +30,8 @@ pub(crate) enum Step {
     Shift(u16),
 }
 
+// A workspace has a call for each kind of load, join and layer. The three below choose the call for a test that runs over the kinds.
+
 /// Loads register r with a polynomial or a transform.
 pub(crate) fn load<G: GuardedRing>(
     space: &mut Workspace<G>,
