@@ -34,8 +34,8 @@ pub returns : goal.returns
 returns g c =
     let law = g.met.G.GuardedRing.lawful c.args.self.now.ring in
     let served =
-        at_register _ _ _ _ _ (λ (r : ℕ). release r (length c.args.out.now) (length c.args.scratch.now)) _ _ _ c.in_ok-register.ensures.found
-        (λ h. releases _ _ _ _ _ _ _ _ h (ap (λ (x : Register). x.form) c.record_of.ensures) c.hand_out.ensures) c.in_ok-register.ensures.says in
+    at_register _ _ _ _ _ (λ (r : ℕ). release r (length c.args.out.now) (length c.args.scratch.now)) _ _ _ c.in_ok-register.ensures.found
+    (λ h. releases _ _ _ _ _ _ _ _ h (ap (λ (x : Register). x.form) c.record_of.ensures) c.hand_out.ensures) c.in_ok-register.ensures.says in
     record {
       serves = served;
       keeps = tt;
