@@ -1,19 +1,10 @@
 -- A mask by its butterfly's number.
-use Rattle.std.proofs.Common.{◌≡◌, ℕ, ◌/◌, ◌^◌, ◌<◌, ◌≤◌, Bool, true, false, cond, min, List, [], ◌∷◌, length, get_or, sym, refl, ap, ◌∙◌, arith}
+use Rattle.std.proofs.Common.{◌≡◌, ℕ, ◌/◌, ◌^◌, ◌<◌, ◌≤◌, Bool, true, false, cond, min, List, get_or, sym, refl, ap, ◌∙◌, arith}
 use Rattle.std.specs.Int.{is_power_of_two}
 use Rattle.std.specs.Int.Count.{count_trailing_zeros}
 use Rattle.std.proofs.lemmas.Bool.Decides.{nat_tests}
-use Rattle.std.proofs.lemmas.List.{get_or_past}
-use Rattle.algebra.specs.Masks.{is_list_length, block}
+use Rattle.algebra.specs.Masks.{is_list_length}
 use Rattle.algebra.proofs.Tables.{tabulated, tabulated_at}
-
--- past the list there is no mask
-pub mask_past : (bytes : List ℕ) (n shift : ℕ) → (0 < length bytes → 128 / length bytes ≡ 2 ^ shift) →
-    length bytes ≤ n / 2 ^ shift → 0 ≡ get_or bytes (block bytes n) 0
-mask_past [] n shift width h = refl
-mask_past (x ∷ xs) n shift width h =
-    let is : 128 / length (x ∷ xs) ≡ 2 ^ shift = width (omega arith) in
-    rw is (sym (get_or_past (x ∷ xs) (n / 2 ^ shift) 0 h))
 
 -- two functions whose tables compute to the same list
 same_at : (f g : ℕ → ℕ) (count k : ℕ) → tabulated f 0 count ≡ tabulated g 0 count → k < count → f k ≡ g k

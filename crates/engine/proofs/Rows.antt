@@ -1,5 +1,5 @@
 -- Rows of words: a layer is written pair by pair and group by group.
-use Rattle.std.proofs.Common.{◌≡◌, ℕ, ◌+◌, ◌*◌, ◌<◌, ◌≤◌, Bool, true, ◌≢◌, List, map, length, get_or, set, sym, refl, ap, ◌∙◌, mul-le-mul_right, add-mul, arith, length-set, get_or-set_other, get_or-set_same}
+use Rattle.std.proofs.Common.{◌≡◌, ℕ, ◌+◌, ◌*◌, ◌<◌, ◌≤◌, Bool, true, ◌≢◌, List, map, length, get_or, set, sym, ap, ◌∙◌, mul-le-mul_right, add-mul, arith, length-set, get_or-set_other, get_or-set_same}
 use native.Mathlib.Decide.{ℕ_discrete, dec_lt}
 use lib.ListN.{length-map}
 use lib.Seq.{map-set}
@@ -73,9 +73,6 @@ module _ {W : Type 0} (element : W → Bool) (f : W → ℕ) where
           rw (e, ← left, ← right) c.here
     ];
   }
-
-  pub layer_none : (len : ℕ) (Q : ℕ → ℕ → ℕ → ℕ → ℕ → ℕ → Type 0) (ws : List W) → Elements element ws → LayerWritten element f len 0 Q ws ws
-  layer_none len Q ws all = record { size = refl; all = all; after = λ k h. refl; here = λ g o h l. absurd (omega arith) }
 
 -- later groups lie past the earlier ones
 pub past : (g n len : ℕ) → g < n → g * (2 * len) + 2 * len ≤ n * (2 * len)

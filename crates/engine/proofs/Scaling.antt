@@ -8,7 +8,7 @@ use Rattle.algebra.specs.Layers.{last_factor, inv_stage}
 use Rattle.algebra.specs.Masks.{mask_after, Holds, InverseLayer}
 use Rattle.algebra.proofs.Modular.{same_of, same_sym, same_mod, same_mul_left, same_mul_right, ◌⨾◌}
 use Rattle.algebra.proofs.MaskLists.{inverse_step_listed}
-use Rattle.engine.specs.Rows.{Elements, held, Multiplied}
+use Rattle.engine.specs.Rows.{held, Multiplied}
 use Rattle.engine.specs.Steps.{WentBack, InverseOf128}
 use Rattle.engine.proofs.Numbers.{with_factor}
 use Rattle.engine.proofs.Layering.{half_turn, inverse_fits}
@@ -19,9 +19,6 @@ one_more zero x a v y h e ev = absurd (omega arith)
 one_more (suc neg) x a v y h e ev = same_of ev ⨾ same_mod (x * a) ⨾ same_of (ap (λ (k : ℕ). x * k) e)
 
 module _ {W : Type 0} (element : W → Bool) (f : W → ℕ) (m x : ℕ) where
-  pub multiplied_none : (ws : List W) → Elements element ws → Multiplied element f (pred m) x 0 ws ws
-  multiplied_none ws all = record { size = refl; all = all; after = λ k h. refl; here = λ k h. absurd (omega arith) }
-
   pub multiplied_more : (n : ℕ) (ws ws' : List W) (a v : W) → n < length ws → x < m → Multiplied element f (pred m) x n ws ws' →
       a ≡ get_or ws' n a → element v ≡ true → f v ≡ (x * f a) % m → Multiplied element f (pred m) x (n + 1) ws (set ws' n v)
   multiplied_more n ws ws' a v h b t ea ev em =

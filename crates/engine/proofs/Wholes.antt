@@ -1,21 +1,13 @@
 -- All seven layers with no mask.
-use Rattle.std.proofs.Common.{◌≡◌, ℕ, ◌+◌, ◌-◌, Bool, true, false, ◌||◌, eqb, List, refl, subst, arith}
+use Rattle.std.proofs.Common.{◌≡◌, ℕ, ◌+◌, ◌-◌, List, subst, arith}
 use native.Mathlib.Nat.{pow-zero}
 use Rattle.algebra.specs.declared.Direction.TheVariants.{Forward, Inverse}
 use Rattle.algebra.specs.Layers.{layers, inv_stage, ntt, inv_ntt}
-use Rattle.algebra.specs.Masks.{Holds, suits, mask_after}
+use Rattle.algebra.specs.Masks.{Holds, mask_after}
 use Rattle.algebra.proofs.Modular.{same_of, ◌⨾◌}
 use Rattle.algebra.proofs.Steps.{layers_zero, inv_layers_zero}
 use Rattle.algebra.proofs.MaskLists.{mask_none, mask_end}
 use Rattle.engine.specs.Steps.{Agrees, WentForward, WentBack, unmasked_list}
-
--- the list suits any layer
-pub no_masks_suit : (s : ℕ) → suits 7 s (unmasked_list s) ≡ true
-no_masks_suit s = go (eqb s 0 || eqb s 7) refl
-  where
-    go : (b : Bool) → (eqb s 0 || eqb s 7) ≡ b → suits 7 s (unmasked_list s) ≡ true
-    go true e = rw e refl
-    go false e = rw e refl
 
 module _ (neg w : ℕ) (f : ℕ → ℕ) where
   pub forward_start : Holds neg w (mask_after 7 Forward 0 (unmasked_list 0)) (layers 7 neg w 0 f) f

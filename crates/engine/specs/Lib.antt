@@ -2,4 +2,4 @@ pub mod Rows
 pub mod Pairs
 pub mod Steps
 pub mod Slots
-pub mod Numbers
+pub mod LayerNumbers

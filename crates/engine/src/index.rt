@@ -21,6 +21,8 @@ pub fn reversed(x: u8) -> u8
     REVERSED[x as usize]
 }
 
+// A layer of the transform and one back have their halves and counts in turn: each is one shift. By the mirrored layer 8 - n the two directions
+// would share them, for a method and two facts more.
 impl Layer {
     // Half the positions of a group of this forward layer.
     fn forward_half(self) -> usize

@@ -39,11 +39,6 @@ impl<'a> Masks<'a> {
     pub(crate) fn at(&self, n: usize) -> u8
         ensures { result ≡ slice_index self.now.bytes.now (block self.now.bytes.now n) }
     {
-        let block = n >> self.shift;
-        if block < self.bytes.len() {
-            self.bytes[block]
-        } else {
-            0
-        }
+        self.bytes.get(n >> self.shift).copied().unwrap_or(0)
     }
 }

@@ -31,6 +31,8 @@ fn unmasked(layer: Layer) -> MaskedLayer<'static>
     }
 }
 
+// The loops below run over the numbers of layers, which index nothing.
+
 /// The transform: all seven layers, with no mask.
 pub fn forward_layers<R: Ring>(ring: &R, words: &mut [R::Word])
     requires { IsRow (R.element ring.now) words.old }

@@ -16,7 +16,7 @@ pub enum Form {
 /// The record of a register: its form, its level, and the numbers a and b of its witness aJ + bJ².
 ///
 /// The level is 0 while the register is empty, 1 once it is loaded, and 2 for a product; a sum or a difference has the greater of its two.
-// The level stays a number: the rules take the greater of two and ask whether it is above 1, as an enum would have to be told to.
+// The level stays a number, as the definitions have it under the theorem over histories: they take the greater of two levels and compare with 1.
 #[derive(Clone, Copy, PartialEq, Eq, Debug)]
 pub struct Register {
     pub form: Form,

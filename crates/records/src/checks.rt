@@ -45,7 +45,7 @@ pub fn check_load(
     bytes: &[u8],
 ) -> Result<Index, Refusal>
     ensures says { complaint result ≡ first (rules p t (rows table.now.records) lent (load polynomial r xs.now c bytes.now)) }
-    ensures found { IfOk result (λ register. register.number ≡ r) }
+    ensures found { Finds r result }
 {
     sized(lent, 2048, 0)?;
     sized(xs.len(), 256, 1)?;
@@ -115,7 +115,7 @@ pub fn check_refresh(
     bytes: &[u8],
 ) -> Result<Index, Refusal>
     ensures says { complaint result ≡ first (rules 0 t (rows table.now.records) lent (refresh r bytes.now)) }
-    ensures found { IfOk result (λ register. register.number ≡ r) }
+    ensures found { Finds r result }
 {
     sized(lent, 2048, 0)?;
     sized(bytes.len(), 256, 1)?;
@@ -128,7 +128,7 @@ pub fn check_refresh(
 /// What a clear is refused for, whatever the records are; else its register.
 pub fn check_clear(lent: usize, r: u8) -> Result<Index, Refusal>
     ensures says { complaint result ≡ first (rules 0 0 opened.registers lent (clear r)) }
-    ensures found { IfOk result (λ register. register.number ≡ r) }
+    ensures found { Finds r result }
 {
     sized(lent, 2048, 0)?;
     Index::try_from(r)
@@ -143,7 +143,7 @@ pub fn check_release(
     r: u8,
 ) -> Result<Index, Refusal>
     ensures says { complaint result ≡ first (rules 0 0 (rows table.now.records) lent (release r out scratch)) }
-    ensures found { IfOk result (λ register. register.number ≡ r) }
+    ensures found { Finds r result }
 {
     sized(lent, 2048, 0)?;
     sized(out, 256, 1)?;

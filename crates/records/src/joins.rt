@@ -55,6 +55,7 @@ fn operands(table: &Table, join: Join) -> Result<(), Refusal>
 }
 
 /// What a sum, a difference or a product is refused for; else its registers.
+// Here the numbers are not checked yet, and refused in their order: a `Join` holds checked ones.
 pub fn check_join(
     table: &Table,
     operation: Operation,

@@ -10,5 +10,5 @@ pub mod turn;
 pub use checks::{check_clear, check_load, check_refresh, check_release, check_turn};
 pub use joins::check_join;
 pub use table::Table;
-pub use table::changes::loaded_form;
+pub use table::changes::loaded;
 pub use turn::Turn;

@@ -1,6 +1,7 @@
 ghost use Rattle.std.specs.Prelude.{◌≡◌, ◌+◌, ◌-◌, ◌*◌, ◌%◌, ◌<◌};
 
 /// The check modulus, by which the numbers of witnesses are reduced.
+// The crate witness has one of its own, which belongs to a ring and spares the divisions in its loops; a join makes two of them at most.
 #[derive(Clone, Copy)]
 pub(crate) struct Modulus {
     pub(crate) p: u32,

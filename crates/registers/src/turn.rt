@@ -27,6 +27,7 @@ pub fn turn_register<G: GuardedRing>(
 {
     let base = 256 * r.number as usize;
     let row = &mut words[base..base + 256];
+    // The two directions have laws of their own, so the choice stands where a law is asked for.
     match way {
         Direction::Forward => forward_layer(ring, row, masked),
         Direction::Inverse => inverse_layer(ring, row, masked),

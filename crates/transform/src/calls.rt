@@ -61,6 +61,7 @@ pub fn layer(
     let masked = may_mask(number, incoming, outgoing)?;
     out.copy_from_slice(f);
     let ring = ml_kem_ring();
+    // The two directions have laws of their own, so the choice stands where a law is asked for.
     match direction {
         Direction::Forward => forward_layer(&ring, out, &masked),
         Direction::Inverse => inverse_layer(&ring, out, &masked),

@@ -79,5 +79,6 @@ fn both_kinds(
 
 #[test]
 fn coefficients_are_below_3329_and_bytes_below_t(rt: HostRuntime) -> Result<(), Fail> {
-    in_a_workspace(7681, 3, 0, |space, words| both_kinds(&rt, space, words))
+    let ring = Redundant::approve(7681, 3)?;
+    in_a_workspace(ring, 0, |space, words| both_kinds(&rt, space, words))
 }

@@ -30,7 +30,7 @@ pub(crate) enum Step {
     Shift(u16),
 }
 
-// A workspace has a call for each kind of load, join and layer. The three below choose the call for a test that runs over the kinds.
+// A workspace has a call for each kind of load, join and layer, so a test that runs over the kinds has to choose one: the three below do.
 
 /// Loads register r with a polynomial or a transform.
 pub(crate) fn load<G: GuardedRing>(
@@ -133,10 +133,8 @@ fn layer_under(
 }
 
 fn release(space: &Workspace<Redundant>, words: &[u32], r: u8) -> Result<(), Refusal> {
-    match released(space, words, r) {
-        Ok(_) => Ok(()),
-        Err(refusal) => Err(refusal),
-    }
+    released(space, words, r)?;
+    Ok(())
 }
 
 /// What a step is answered.
@@ -183,12 +181,16 @@ fn answer_all(
 }
 
 /// Runs a part of a test in a new workspace whose words are all this word, and closes the workspace.
-pub(crate) fn in_a_workspace<F>(p: u32, t: u8, word: u32, run: F) -> Result<(), Fail>
+pub(crate) fn in_a_workspace<G: GuardedRing + Drop, F>(
+    ring: G,
+    word: G::Word,
+    run: F,
+) -> Result<(), Fail>
 where
-    F: FnOnce(&mut Workspace<Redundant>, &mut [u32; 2048]) -> Result<(), Fail>,
+    F: FnOnce(&mut Workspace<G>, &mut [G::Word; 2048]) -> Result<(), Fail>,
     requires { F.IsAlwaysCallable run }
 {
-    let mut space = Workspace::open(Redundant::approve(p, t)?);
+    let mut space = Workspace::open(ring);
     let mut words = [word; 2048];
     let answer = run(&mut space, &mut words);
     space.close(&mut words);
@@ -202,9 +204,9 @@ pub(crate) fn play(
     t: u8,
     steps: &[(Step, Option<Refusal>)],
 ) -> Result<(), Fail> {
+    let ring = Redundant::approve(p, t)?;
     in_a_workspace(
-        p,
-        t,
+        ring,
         4294967295,
         |space, words| answer_all(rt, space, words, steps),
     )

@@ -89,5 +89,6 @@ fn there_and_back(
 
 #[test]
 fn a_strike_at_any_boundary_of_the_layers_is_found(rt: HostRuntime) -> Result<(), Fail> {
-    in_a_workspace(7681, 3, 0, |space, words| there_and_back(&rt, space, words))
+    let ring = Redundant::approve(7681, 3)?;
+    in_a_workspace(ring, 0, |space, words| there_and_back(&rt, space, words))
 }

@@ -23,12 +23,8 @@ fn refresh_and_clear(
 
 #[test]
 fn refresh_renumbers_the_words_and_clear_leaves_them(rt: HostRuntime) -> Result<(), Fail> {
-    in_a_workspace(
-        7681,
-        3,
-        9,
-        |space, words| refresh_and_clear(&rt, space, words),
-    )
+    let ring = Redundant::approve(7681, 3)?;
+    in_a_workspace(ring, 9, |space, words| refresh_and_clear(&rt, space, words))
 }
 
 #[test]

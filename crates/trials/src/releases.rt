@@ -86,5 +86,6 @@ fn release_all(
 
 #[test]
 fn a_scratch_of_256_comes_back_zero_and_any_other_as_it_was(rt: HostRuntime) -> Result<(), Fail> {
-    in_a_workspace(7681, 1, 0, |space, words| release_all(&rt, space, words))
+    let ring = Redundant::approve(7681, 1)?;
+    in_a_workspace(ring, 0, |space, words| release_all(&rt, space, words))
 }

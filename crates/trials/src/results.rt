@@ -126,7 +126,8 @@ fn all<G: GuardedRing>(
 }
 
 fn in_a_redundant_ring(rt: &impl Abort, p: u32, t: u8, mask: u8, byte: u8) -> Result<(), Fail> {
-    in_a_workspace(p, t, 0, |space, words| all(rt, space, words, mask, byte))
+    let ring = Redundant::approve(p, t)?;
+    in_a_workspace(ring, 0, |space, words| all(rt, space, words, mask, byte))
 }
 
 const NOTHING: Residues = Residues {
@@ -139,11 +140,9 @@ fn sums_and_products_are_the_same_in_every_ring(rt: HostRuntime) -> Result<(), F
     in_a_redundant_ring(&rt, 7681, 1, 0, 0)?;
     in_a_redundant_ring(&rt, 7681, 3, 200, 2)?;
     in_a_redundant_ring(&rt, 12289, 103, 3, 101)?;
-    let mut space = Workspace::open(Pair::approve(7681)?);
-    let mut words = [NOTHING; 2048];
-    let answer = all(&rt, &mut space, &mut words, 99, 0);
-    space.close(&mut words);
-    answer
+    in_a_workspace(Pair::approve(7681)?, NOTHING, |space, words| {
+        all(&rt, space, words, 99, 0)
+    })
 }
 
 #[test]

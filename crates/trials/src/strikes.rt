@@ -31,7 +31,8 @@ fn strike_word_0(
 
 #[test]
 fn a_strike_is_found_unless_it_keeps_the_remainder_by_p(rt: HostRuntime) -> Result<(), Fail> {
-    in_a_workspace(7681, 1, 0, |space, words| strike_word_0(&rt, space, words))
+    let ring = Redundant::approve(7681, 1)?;
+    in_a_workspace(ring, 0, |space, words| strike_word_0(&rt, space, words))
 }
 
 #[test]

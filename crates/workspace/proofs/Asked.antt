@@ -53,9 +53,6 @@ module _ (p t : ℕ) (S : ℕ → Register) (lent : ℕ) (kind : Kind) (r : ℕ)
   pub load_sizes : (length xs ≡ 256) × (length bytes ≡ 256)
   load_sizes = (eqb-true (length xs) 256 q.1.0, eqb-true (length bytes) 256 q.1.1.0)
 
-  pub load_known : r < 8
-  load_known = ltb-true r 8 q.1.1.1.0
-
   pub load_range : flaw (below 3329) xs ≡ none
   load_range = q.1.1.1.1.0
 
@@ -71,12 +68,8 @@ suits_whole times Transformed h = refl
 suits_whole times (Rising s) h = h
 suits_whole times (Falling s) h = h
 
--- what a join has passed: the registers exist
+-- what a join has passed: the first operand is natural or transformed
 module _ (p t : ℕ) (S : ℕ → Register) (lent : ℕ) (o : Operation) (d a b : ℕ) (q : Passes (rules p t S lent (join o d a b))) where
-  pub join_known : (d < 8) × ((a < 8) × (b < 8))
-  join_known = (ltb-true d 8 q.1.0, (ltb-true a 8 q.1.1.0, ltb-true b 8 q.1.1.1.0))
-
-  -- and the first operand is natural or transformed
   pub join_whole : whole (S a).form ≡ true
   join_whole = suits_whole o (S a).form q.1.1.1.1.1.1.1.0
 

@@ -1,7 +1,6 @@
 #![tactic(auto)]
 
 mod scratch;
-mod verdict;
 pub mod workspace;
 
 pub use algebra::Direction;

@@ -1,8 +1,8 @@
 ghost use Rattle.std.specs.Prelude.{◌≡◌, ◌+◌, ◌-◌, ◌*◌, ◌%◌, ◌<◌, ◌≤◌, true, length, position};
 ghost use Rattle.algebra.specs.Masks.{is_list_length};
 ghost use Rattle.histories.specs.Forms.{in_work, whole};
-ghost use Rattle.histories.specs.Calls.{empty_record, opened, form_of};
-ghost use Rattle.histories.specs.Serves.{loaded, joined};
+ghost use Rattle.histories.specs.Calls.{empty_record, opened};
+ghost use Rattle.histories.specs.Serves.{loaded as as_loaded, joined};
 ghost use Rattle.records.specs.Rows.{rows, proper as is_proper, Alone};
 ghost use Rattle.records.specs.Tables.{state, with_register, advanced, carried};
 ghost use Rattle.histories.specs.Kinds.{kind_of, operation_of};
@@ -10,9 +10,9 @@ ghost use Rattle.histories.specs.Kinds.{kind_of, operation_of};
 use super::Table;
 use crate::modulus::Modulus;
 use arrayvec::ArrayVec;
-use engine::Layer;
 use histories::{Form, Index, Join, Kind, Operation, Register};
 
+// A constant and no `Default`: the array of a new table takes it eight times.
 const EMPTY: Register = Register {
     form: Form::Empty,
     level: 0,
@@ -20,11 +20,16 @@ const EMPTY: Register = Register {
     b: 0,
 };
 
-/// The form of what is loaded.
-pub fn loaded_form(kind: Kind) -> Form
-    ensures { result ≡ form_of (kind_of kind) }
+/// The record of what is loaded, with the number c of its witness.
+pub fn loaded(kind: Kind, c: u32) -> Register
+    ensures { result ≡ as_loaded (kind_of kind) c }
 {
-    Form::from(kind)
+    Register {
+        form: Form::from(kind),
+        level: 1,
+        a: c,
+        b: 0,
+    }
 }
 
 // The record of a result. The numbers of the witness are added, subtracted or multiplied modulo p.
@@ -67,13 +72,9 @@ impl Table {
 
     /// Notes what was loaded into a register, with the number c of its witness.
     pub fn load(&mut self, register: Index, kind: Kind, c: u32)
-        ensures { state self.new ≡ with_register register.number (loaded (kind_of kind) c) (state self.old) }
+        ensures { state self.new ≡ with_register register.number (as_loaded (kind_of kind) c) (state self.old) }
     {
-        let record = &mut self.records[register.number as usize];
-        record.form = loaded_form(kind);
-        record.level = 1;
-        record.a = c;
-        record.b = 0;
+        self.records[register.number as usize] = loaded(kind, c);
     }
 
     /// Notes that register d got the sum, the difference or the product of a and b.
@@ -121,9 +122,9 @@ impl Table {
     }
 
     /// The list of masks that the words carry before this layer: none before layer 1, else the list that the layer before took.
-    pub fn incoming(&self, layer: Layer) -> &[u8]
-        ensures { result.now ≡ carried layer.number (state self.now).masks }
+    pub fn incoming(&self, layer: u8) -> &[u8]
+        ensures { result.now ≡ carried layer (state self.now).masks }
     {
-        if layer.number == 1 { &[] } else { &self.masks }
+        if layer == 1 { &[] } else { &self.masks }
     }
 }

@@ -8,16 +8,16 @@ ghost use Rattle.records.specs.Tables.{state};
 ghost use Rattle.histories.specs.Kinds.{kind_of, operation_of};
 
 use super::Workspace;
-use crate::verdict::{may_join, may_load, may_refresh, may_turn};
 use algebra::Direction;
 use engine::MaskedLayer;
 use guarded::GuardedRing;
-use histories::{Kind, Operation, Register};
-use records::{Table, check_clear, loaded_form};
+use histories::{Kind, Operation};
+use records::{Table, check_clear, loaded};
 use registers::{join_registers, load_register, refresh_register, turn_register};
 use rings::{Refusal, Ring};
 use witness::residues_due;
 
+// The interface has a call for each kind of load, direction and operation; each is a name for one of the private functions below it.
 // Each call says that its ring stays: Rust has no field that a `&mut self` cannot change.
 impl<G: GuardedRing> Workspace<G> {
     /// Opens a workspace on a ring and takes the ring over. All registers are empty.
@@ -73,15 +73,9 @@ impl<G: GuardedRing> Workspace<G> {
         ensures keeps { self.new.ring ≡ self.old.ring }
         ensures serves { Serves (model G.GuardedRing self.old.ring) (state self.old.table) (length words.old) (part words.old) (loading (kind_of kind) r xs.now c bytes.now) (told result) (state self.new.table) (part words.new) }
     {
-        let register = may_load(&self.ring, &self.table, words, r, xs, c, bytes)?;
-        let record = Register {
-            form: loaded_form(kind),
-            level: 1,
-            a: c,
-            b: 0,
-        };
+        let register = self.may_load(words, r, xs, c, bytes)?;
         let mut checks = [0u32; 256];
-        residues_due(&self.ring, record, &mut checks);
+        residues_due(&self.ring, loaded(kind, c), &mut checks);
         load_register(&self.ring, words, register, xs, &checks, bytes);
         self.table.load(register, kind, c);
         Ok(())
@@ -113,10 +107,10 @@ impl<G: GuardedRing> Workspace<G> {
         ensures keeps { self.new.ring ≡ self.old.ring }
         ensures serves { Serves (model G.GuardedRing self.old.ring) (state self.old.table) (length words.old) (part words.old) (turning way r masks.now) (told result) (state self.new.table) (part words.new) }
     {
-        let turn = may_turn(&self.ring, &self.table, words, way, r, masks)?;
+        let turn = self.may_turn(words, way, r, masks)?;
         let masked = MaskedLayer {
             layer: turn.layer,
-            before: self.table.incoming(turn.layer),
+            before: self.table.incoming(turn.layer.number),
             list: masks,
         };
         turn_register(&self.ring, words, turn.register, way, &masked);
@@ -159,7 +153,7 @@ impl<G: GuardedRing> Workspace<G> {
         ensures keeps { self.new.ring ≡ self.old.ring }
         ensures serves { Serves (model G.GuardedRing self.old.ring) (state self.old.table) (length words.old) (part words.old) (joining (operation_of operation) d a b) (told result) (state self.new.table) (part words.new) }
     {
-        let join = may_join(&self.ring, &self.table, words, operation, d, a, b)?;
+        let join = self.may_join(words, operation, d, a, b)?;
         join_registers(&self.ring, words, join);
         self.table.join(self.ring.check_modulus(), join);
         Ok(())
@@ -170,7 +164,7 @@ impl<G: GuardedRing> Workspace<G> {
         ensures keeps { self.new.ring ≡ self.old.ring }
         ensures serves { Serves (model G.GuardedRing self.old.ring) (state self.old.table) (length words.old) (part words.old) (refreshing r bytes.now) (told result) (state self.new.table) (part words.new) }
     {
-        let register = may_refresh(&self.ring, &self.table, words, r, bytes)?;
+        let register = self.may_refresh(words, r, bytes)?;
         refresh_register(&self.ring, words, register, bytes);
         Ok(())
     }

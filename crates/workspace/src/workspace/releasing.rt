@@ -9,7 +9,6 @@ ghost use Rattle.workspace.specs.Judged.{Judged};
 
 use super::Workspace;
 use crate::scratch::Scratch;
-use crate::verdict::may_release;
 use guarded::GuardedRing;
 use histories::Form;
 use records::check_release;
@@ -37,7 +36,7 @@ impl<G: GuardedRing> Workspace<G> {
             unreachable()
         }
         let guard = Scratch(scratch);
-        let register = may_release(&self.ring, &self.table, words, r, out.len(), guard.0)?;
+        let register = self.may_release(words, r, out.len(), guard.0)?;
         hand_out(&self.ring, words, register, out);
         Ok(self.table.record_of(register).form)
     }

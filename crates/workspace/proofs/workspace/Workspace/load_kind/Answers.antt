@@ -1,9 +1,7 @@
 use Rattle.std.proofs.Common.{ℕ, refl, ap, ◌∙◌, arith}
 use Rattle.guarded.specs.Model.{guarded}
-use Rattle.histories.specs.declared.register.Form.{Form}
-use Rattle.histories.specs.Operations.{witness}
-use Rattle.histories.specs.Forms.{in_form}
-use Rattle.histories.specs.Calls.{load, part, checks, polynomial}
+use Rattle.histories.specs.declared.register.Register.{Register}
+use Rattle.histories.specs.Calls.{load, part, due, polynomial}
 use Rattle.histories.specs.Serves.{done}
 use Rattle.records.specs.Tables.{state}
 use Rattle.workspace.proofs.Asked.{ruled, lent_all, load_sizes, load_range, load_digits, due_low}
@@ -44,7 +42,7 @@ returns g c =
           at_register model _ _ _ _ (λ (r : ℕ). load (kind_of c.args.kind) r c.args.xs.now c.args.c c.args.bytes.now) done _ _ c.in_ok-register.ensures.found
           (λ k.
           loads model _ _ _ _ (kind_of c.args.kind) _ _ _ _ _ k c.load.ensures c.load_register.ensures.only
-          (c.residues_due.ensures ∙ ap (λ (F : Form). in_form (checks model) F (witness (checks model) c.args.c 0)) c.loaded_form.ensures)
+          (c.residues_due.ensures ∙ ap (λ (x : Register). due model x) c.loaded.ensures)
           c.load_register.ensures.holds)
           c.in_ok-register.ensures.says;
     }
