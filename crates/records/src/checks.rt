@@ -2,6 +2,7 @@ ghost use Rattle.std.specs.Prelude.{◌≡◌, ◌&&◌, [], ◌∷◌, IfOk, na
 ghost use Rattle.algebra.specs.Masks.{suits};
 ghost use Rattle.rings.specs.declared.refusal.Refusal.TheVariants as refuse;
 ghost use Rattle.rings.specs.Refusals.{complaint, first, test, scan, flaw};
+ghost use Rattle.histories.specs.Indices.{Finds};
 ghost use Rattle.histories.specs.Calls.{load, turn, refresh, clear, release, eight, free, opened, rules, polynomial};
 ghost use Rattle.records.specs.Rows.{rows};
 ghost use Rattle.records.specs.Tables.{state};

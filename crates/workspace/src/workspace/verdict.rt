@@ -88,13 +88,8 @@ impl<G: GuardedRing> Workspace<G> {
         ensures says { complaint result ≡ judgement (model G.GuardedRing self.now.ring) (state self.now.table) (length words.now) (part words.now) (refresh r bytes.now) }
         ensures found { Finds r result }
     {
-        let register = check_refresh(
-            &self.table,
-            self.ring.redundancy_number(),
-            words.len(),
-            r,
-            bytes,
-        )?;
+        let t = self.ring.redundancy_number();
+        let register = check_refresh(&self.table, t, words.len(), r, bytes)?;
         test_register(&self.ring, words, register)?;
         Ok(register)
     }
