@@ -7,7 +7,7 @@ use rings::Plain;
 pub mod arithmetic;
 
 /// A number below 3329 p by its remainders: by 3329 and by p.
-#[derive(Clone, Copy, PartialEq, Eq, Debug)]
+#[derive(Clone, Copy, PartialEq, Eq, Debug, Default)]
 pub struct Residues {
     pub coefficient: u16,
     pub check: u16,

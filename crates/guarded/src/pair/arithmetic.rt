@@ -80,10 +80,7 @@ impl Ring for Pair {
     }
 
     fn zero(&self) -> Residues {
-        Residues {
-            coefficient: 0,
-            check: 0,
-        }
+        Residues::default()
     }
 
     fn test(&self, w: Residues) -> bool {
