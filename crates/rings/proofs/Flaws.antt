@@ -53,9 +53,6 @@ high_none m xs h = rw (flaw_position (below m) (high m) (low_not_high m) xs) (go
     go true h = cc
     go false h = refl
 
-pub high_at : (m : ℕ) (xs : List ℕ) (i : ℕ) → i < length xs → ((k : ℕ) → k < i → get_or xs k 0 < m) → m ≤ get_or xs i 0 → flaw (below m) xs ≡ some i
-high_at m xs i h b e = flaw_at (below m) xs i 0 h (λ k l. lt-ltb _ _ (b k l)) (le-ltb _ _ e)
-
 pub all_low : (m : ℕ) (xs : List ℕ) → ((k : ℕ) → k < length xs → get_or xs k 0 < m) → flaw (below m) xs ≡ none
 all_low m xs b = flaw_past (below m) xs 0 (λ k l. lt-ltb _ _ (b k l))
 
