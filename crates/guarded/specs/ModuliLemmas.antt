@@ -20,6 +20,9 @@ known_below = known (λ p. p < 12290) (lit< tt) (lit< tt)
 pub known_prime : (p : ℕ) → is_check p ≡ true → Prime p
 known_prime = known Prime prime_7681 prime_12289
 
+pub known_odd : (p : ℕ) → is_check p ≡ true → (3329 * p) % 2 ≡ 1
+known_odd = known (λ p. (3329 * p) % 2 ≡ 1) refl refl
+
 pub known_turned : (p : ℕ) → is_check p ≡ true → (joint_root p ^ 128 + 1) % (3329 * p) ≡ 0
 known_turned = known (λ p. (joint_root p ^ 128 + 1) % (3329 * p) ≡ 0) refl refl
 

@@ -1,6 +1,7 @@
-ghost use Rattle.std.specs.Prelude.{◌≡◌, ◌*◌, ◌/◌, ◌^◌, ◌<◌, ◌≤◌};
+ghost use Rattle.std.specs.Prelude.{◌≡◌, ◌*◌, ◌^◌, ◌<◌, ◌≤◌};
 
 use crate::check::CheckModulus;
+use rings::Divisor;
 
 pub mod arithmetic;
 
@@ -10,16 +11,14 @@ pub struct Redundant {
     check: CheckModulus,
     t: u8,
     n: u32,
-    m: u32,
-    // the whole part of 2^64 / m
-    reciprocal: u64,
-    // the whole part of 2^64 / p
-    check_reciprocal: u64,
+    // m
+    words: Divisor,
+    // p
+    checks: Divisor,
     ghost some: { 1 ≤ t },
     ghost most: { t ≤ 167 },
     ghost joint: { n ≡ 3329 * check.p },
-    ghost words: { m ≡ 3329 * check.p * t },
+    ghost counts: { words.number ≡ 3329 * check.p * t },
     ghost fits: { 3329 * check.p * t < 2 ^ 32 },
-    ghost divides: { reciprocal ≡ (2 ^ 64) / m },
-    ghost divides_check: { check_reciprocal ≡ (2 ^ 64) / check.p },
+    ghost same: { checks.number ≡ check.p },
 }

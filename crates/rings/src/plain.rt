@@ -8,7 +8,7 @@ pub mod arithmetic;
 #[derive(Drop)]
 pub struct Plain {
     modulus: u16,
-    // the whole part of 2^32 / modulus
+    // the whole part of 2^32 / modulus; not a `Divisor`, since this is the one use of the narrow `reduce`
     reciprocal: u32,
     // the inverse of 128
     inverse: u16,

@@ -22,9 +22,6 @@ use Rattle.histories.specs.Operations.{Base, transform_of, witness}
 use Rattle.witness.specs.Groups.{Groups, SlotsDue}
 use Rattle.witness.proofs.Pairs.{pair_set, pair_first, pair_second, pair_other}
 
-pub slots_none : (p w a b : ℕ) (xs numbers : List ℕ) → SlotsDue p w a b 0 xs numbers
-slots_none p w a b xs numbers = record { first = λ i h. absurd (omega arith); second = λ i h. absurd (omega arith) }
-
 pub slots_more : (p w a b n x y : ℕ) (xs ws : List ℕ) → 2 * n + 1 < length ws → SlotsDue p w a b n xs ws →
     x ≡ (a * coefficient xs n + b * (coefficient xs n * coefficient xs n + coefficient xs n * coefficient xs n * gamma 7 w n)) % p →
     y ≡ (a * coefficient xs n + b * (coefficient xs n * coefficient xs n + coefficient xs n * coefficient xs n)) % p →

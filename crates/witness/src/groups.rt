@@ -9,8 +9,8 @@ use guarded::GuardedRing;
 // The index stays: each step reads place g of the slice and writes the places 2g and 2g + 1 of the same slice.
 fn halve<G: GuardedRing>(modulus: &Modulus<G>, count: usize, numbers: &mut [u32; 128])
     requires size { count ≤ 64 }
-    requires small { (k : ℕ) → get_or numbers.old k 0 < modulus.now.p }
-    ensures { Halved modulus.now.p (G.root modulus.now.ring.now) count 0 numbers.old numbers.new }
+    requires small { (k : ℕ) → get_or numbers.old k 0 < modulus.now.p.number }
+    ensures { Halved modulus.now.p.number (G.root modulus.now.ring.now) count 0 numbers.old numbers.new }
 {
     for g in (0..count).rev() {
         let whole = numbers[g];
@@ -22,10 +22,11 @@ fn halve<G: GuardedRing>(modulus: &Modulus<G>, count: usize, numbers: &mut [u32;
 
 // The transform of J: number i stands at both places of slot i.
 pub(crate) fn ones_transformed<G: GuardedRing>(modulus: &Modulus<G>) -> [u32; 128]
-    ensures { Groups modulus.now.p (G.root modulus.now.ring.now) 7 result }
+    ensures { Groups modulus.now.p.number (G.root modulus.now.ring.now) 7 result }
 {
     let mut numbers = [0; 128];
     numbers[0] = 1;
+    // The number of the layer is the argument of the shift, and no index into a slice.
     for layer in 0..7u8 {
         halve(modulus, 1 << layer, &mut numbers);
     }

@@ -18,8 +18,8 @@ pub(crate) fn coefficients_due<G: GuardedRing>(
 {
     let a = register.a as u64;
     let b = register.b as u64;
-    let step = modulus.reduced(2 * b);
-    let mut x = modulus.reduced(a + b * (modulus.p - 254) as u64);
+    let step = modulus.p.remainder(2 * b);
+    let mut x = modulus.p.remainder(a + b * (modulus.p.number - 254) as u64);
     for number in numbers.iter_mut() {
         *number = x;
         x = modulus.sum(x, step);

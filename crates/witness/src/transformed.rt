@@ -11,8 +11,8 @@ use histories::Register;
 
 // The two numbers of aJ + bJ² in a slot of the root c, where J has s twice: J² has the base product (s² + s²c, 2s²).
 fn slot_due<G: GuardedRing>(modulus: &Modulus<G>, register: Register, s: u32, c: u32) -> (u32, u32)
-    ensures first { result.0 ≡ (register.a * s + register.b * (s * s + s * s * c)) % modulus.now.p }
-    ensures second { result.1 ≡ (register.a * s + register.b * (s * s + s * s)) % modulus.now.p }
+    ensures first { result.0 ≡ (register.a * s + register.b * (s * s + s * s * c)) % modulus.now.p.number }
+    ensures second { result.1 ≡ (register.a * s + register.b * (s * s + s * s)) % modulus.now.p.number }
 {
     let square = modulus.product(register.b, modulus.product(s, s));
     let both = modulus.sum(modulus.product(register.a, s), square);

@@ -4,16 +4,13 @@ ghost use Rattle.rings.specs.Refusals.{answer, ruling, test as checked};
 ghost use Rattle.guarded.specs.Moduli.{is_check, is_redundancy, most_redundancy};
 ghost use Rattle.guarded.specs.RedundantRing.{redundant_check, redundant_redundancy, redundant_modulus, redundant_words, redundant_root, redundant_element, redundant_meaning, redundant_number};
 ghost use Rattle.std.proofs.Common.{rules};
-ghost use Rattle.guarded.specs.ModuliLemmas.{known_turned};
+ghost use Rattle.guarded.specs.ModuliLemmas.{known_odd, known_turned};
 ghost use Rattle.guarded.specs.RedundantLawful.{redundant_lawful};
 
 use super::Redundant;
 use crate::check::CheckModulus;
 use crate::ring::GuardedRing;
-use rings::reduction::reduce_wide;
-use rings::{Refusal, Ring};
-
-const BASE: u128 = 18446744073709551616;
+use rings::{Divisor, Refusal, Ring};
 
 // The ring of a check modulus and an approved t.
 fn made(check: CheckModulus, t: u8) -> Redundant
@@ -22,16 +19,12 @@ fn made(check: CheckModulus, t: u8) -> Redundant
     ensures { (result.check ≡ check) × (result.t ≡ t) }
 {
     let n = 3329 * check.p;
-    let m = n * t as u32;
-    let reciprocal = (BASE / m as u128) as u64;
-    let check_reciprocal = (BASE / check.p as u128) as u64;
     Redundant {
         check,
         t,
         n,
-        m,
-        reciprocal,
-        check_reciprocal,
+        words: Divisor::of(n * t as u32),
+        checks: Divisor::of(check.p),
     }
 }
 
@@ -63,7 +56,7 @@ impl Ring for Redundant {
 
     ghost meaning = { redundant_meaning };
 
-    ghost odd = { Prim.search rules };
+    ghost odd = { λ s. known_odd s.check.p s.check.known };
 
     ghost halfway = { λ s. known_turned s.check.p s.check.known };
 
@@ -76,7 +69,7 @@ impl Ring for Redundant {
         ensures means { redundant_meaning self.now result ≡ (redundant_meaning self.now a + redundant_meaning self.now b) % redundant_modulus self.now }
         ensures word { result ≡ (a + b) % redundant_words self.now }
     {
-        let gap = self.m - b;
+        let gap = self.words.number - b;
         if a < gap { a + b } else { a - gap }
     }
 
@@ -87,7 +80,11 @@ impl Ring for Redundant {
         ensures means { redundant_meaning self.now result ≡ (redundant_meaning self.now a + (redundant_modulus self.now - redundant_meaning self.now b)) % redundant_modulus self.now }
         ensures word { result ≡ (a + (redundant_words self.now - b)) % redundant_words self.now }
     {
-        if a < b { a + (self.m - b) } else { a - b }
+        if a < b {
+            a + (self.words.number - b)
+        } else {
+            a - b
+        }
     }
 
     fn product(&self, a: u32, b: u32) -> u32
@@ -97,7 +94,7 @@ impl Ring for Redundant {
         ensures means { redundant_meaning self.now result ≡ (redundant_meaning self.now a * redundant_meaning self.now b) % redundant_modulus self.now }
         ensures word { result ≡ (a * b) % redundant_words self.now }
     {
-        reduce_wide(a as u64 * b as u64, self.m as u64, self.reciprocal)
+        self.words.remainder(a as u64 * b as u64)
     }
 
     fn power(&self, e: u8) -> u32 {
@@ -113,7 +110,7 @@ impl Ring for Redundant {
     }
 
     fn test(&self, w: u32) -> bool {
-        w < self.m
+        w < self.words.number
     }
 }
 
@@ -138,18 +135,13 @@ impl GuardedRing for Redundant {
 
     fn lift(&self, s: u16, c: u32, k: u8) -> u32 {
         let gap = c + (self.check.p - s as u32);
-        let part = reduce_wide(
-            gap as u64 * self.check.inverse as u64,
-            self.check.p as u64,
-            self.check_reciprocal,
-        );
+        let part = self
+            .checks
+            .remainder(gap as u64 * self.check.inverse as u64);
         s as u32 + 3329 * part + self.n * k as u32
     }
 
     fn split(&self, w: u32) -> (u16, u32) {
-        (
-            (w % 3329) as u16,
-            reduce_wide(w as u64, self.check.p as u64, self.check_reciprocal),
-        )
+        ((w % 3329) as u16, self.checks.remainder(w as u64))
     }
 }

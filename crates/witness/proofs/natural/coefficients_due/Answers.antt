@@ -8,15 +8,15 @@ use Rattle.witness.proofs.natural.coefficients_due.Goals as goal
 
 pub loop-number-init : goal.loop-number-init
 loop-number-init g c =
-    (rw c.reduced-x.ensures (value_first c.args.modulus.now.p c.args.register.a c.args.register.b (omega arith)), below_none _)
+    (rw c.remainder-x.ensures (value_first c.args.modulus.now.p.number c.args.register.a c.args.register.b (omega arith)), below_none _)
 
 pub loop-number-preserved : goal.loop-number-preserved
 loop-number-preserved g c =
-    let p = c.args.modulus.now.p in
+    let p = c.args.modulus.now.p.number in
     let register = c.args.register in
     let k = c.loop-number.number-index in
     let x = c.loop-number.x in (
-      rw c.sum-x.ensures (value_next p register.a register.b k x c.reduced-step.result (omega arith) c.loop-number.invariant.0 c.reduced-step.ensures),
+      rw c.sum-x.ensures (value_next p register.a register.b k x c.remainder-step.result (omega arith) c.loop-number.invariant.0 c.remainder-step.ensures),
       values_more p register.a register.b k x c.loop-number.numbers (omega arith) c.loop-number.invariant.0 c.loop-number.invariant.1,
     )
 
@@ -27,4 +27,4 @@ returns g c =
     let register = c.args.register in
     let numbers = c.loop-number.numbers in
     subst (λ (p : ℕ). numbers ≡ witness (record { modulus = p; root = w }) register.a register.b) modulus.checks
-    (coefficients_are modulus.p w register.a register.b numbers (omega arith) (omega arith) (λ k l. c.loop-number.invariant.1 k (omega arith)))
+    (coefficients_are modulus.p.number w register.a register.b numbers (omega arith) (omega arith) (λ k l. c.loop-number.invariant.1 k (omega arith)))

@@ -6,5 +6,5 @@ use Rattle.witness.proofs.natural.coefficients_due.Given as goal
 
 abbrev pub invariant-loop-number : goal.invariant-loop-number
 invariant-loop-number g l =
-    (l.x ≡ value l.modulus.p l.a l.b l.number-index)
-    × ((j : ℕ) → j < l.number-index → get_or l.numbers j 0 ≡ value l.modulus.p l.a l.b j)
+    (l.x ≡ value l.modulus.p.number l.a l.b l.number-index)
+    × ((j : ℕ) → j < l.number-index → get_or l.numbers j 0 ≡ value l.modulus.p.number l.a l.b j)

@@ -26,8 +26,8 @@ loop-slot-preserved g c =
     let n = c.loop-slot.slot in
     let ones = c.ones_transformed-ones.result in
     let slot = c.slot_due-first in
-    slots_more modulus.p w register.a register.b n slot.result.0 slot.result.1 ones c.loop-slot.numbers (omega arith) c.loop-slot.invariant
-    (slot_root modulus.p w register.a register.b (get_or ones n 0) n c.reversed.result c.root_power-c.result slot.result.0
+    slots_more modulus.p.number w register.a register.b n slot.result.0 slot.result.1 ones c.loop-slot.numbers (omega arith) c.loop-slot.invariant
+    (slot_root modulus.p.number w register.a register.b (get_or ones n 0) n c.reversed.result c.root_power-c.result slot.result.0
     (omega arith) c.reversed.ensures c.root_power-c.ensures slot.ensures.first)
     slot.ensures.second
 
@@ -43,8 +43,8 @@ returns g c =
     let ones = c.ones_transformed-ones.result in
     let numbers = c.loop-slot.numbers in
     let end : c.loop-slot.slot ≡ 128 = omega arith in
-    let slots : SlotsDue modulus.p (r.root s) register.a register.b 128 ones numbers =
-    subst (λ (n : ℕ). SlotsDue modulus.p (r.root s) register.a register.b n ones numbers) end c.loop-slot.invariant in
+    let slots : SlotsDue modulus.p.number (r.root s) register.a register.b 128 ones numbers =
+    subst (λ (n : ℕ). SlotsDue modulus.p.number (r.root s) register.a register.b n ones numbers) end c.loop-slot.invariant in
     transform_due_is (h.check s) (r.root s) (inverse_of_128 (checks model)) register.a register.b ones numbers (omega (arith, law.above))
     (checks_root model law) (checks_unit model law)
     (subst (λ (p : ℕ). Groups p (r.root s) 7 ones) modulus.checks c.ones_transformed-ones.ensures) (omega arith)

@@ -8,7 +8,7 @@ pub returns-then-a-b-clause-means : goal.returns-then-a-b-clause-means
 returns-then-a-b-clause-means c =
     let s = c.args.self.now in
     let above : 3329 < s.check.p = known_above s.check.p s.check.known in
-    rw s.words (less_low (3329 * s.check.p) s.t c.args.a c.args.b (omega arith) (ltb-true _ _ c.requires.right))
+    rw s.counts (less_low (3329 * s.check.p) s.t c.args.a c.args.b (omega arith) (ltb-true _ _ c.requires.right))
 
 pub returns-else-a-b-clause-means : goal.returns-else-a-b-clause-means
 returns-else-a-b-clause-means c =
@@ -20,7 +20,7 @@ pub returns-then-a-b-clause-word : goal.returns-then-a-b-clause-word
 returns-then-a-b-clause-word c =
     let s = c.args.self.now in
     let right : c.args.b < 3329 * s.check.p * s.t = ltb-true _ _ c.requires.right in
-    rw s.words (less_up c.args.a c.args.b (3329 * s.check.p * s.t) (search rules) right)
+    rw s.counts (less_up c.args.a c.args.b (3329 * s.check.p * s.t) (search rules) right)
 
 pub returns-else-a-b-clause-word : goal.returns-else-a-b-clause-word
 returns-else-a-b-clause-word c =

@@ -16,11 +16,11 @@ pub returns-else-a-gap-clause-means : goal.returns-else-a-gap-clause-means
 returns-else-a-gap-clause-means c =
     let s = c.args.self.now in
     let right : c.args.b < 3329 * s.check.p * s.t = ltb-true _ _ c.requires.right in
-    sum_high (3329 * s.check.p) s.t c.args.a c.args.b (c.args.a - (s.m - c.args.b)) (omega arith)
+    sum_high (3329 * s.check.p) s.t c.args.a c.args.b (c.args.a - (s.words.number - c.args.b)) (omega arith)
 
 pub returns-else-a-gap-clause-word : goal.returns-else-a-gap-clause-word
 returns-else-a-gap-clause-word c =
     let s = c.args.self.now in
     let left : c.args.a < 3329 * s.check.p * s.t = ltb-true _ _ c.requires.left in
     let right : c.args.b < 3329 * s.check.p * s.t = ltb-true _ _ c.requires.right in
-    rw s.words (add_high c.args.a c.args.b (3329 * s.check.p * s.t) left right (omega arith))
+    rw s.counts (add_high c.args.a c.args.b (3329 * s.check.p * s.t) left right (omega arith))
