@@ -7,4 +7,4 @@ use Rattle.guarded.specs.Moduli.{is_check}
 
 -- the check modulus of this number, or the refusal of any that is not approved
 abbrev pub Approves : ℕ → Result CheckModulus Refusal → Type 0
-Approves p result = MatchResult result (λ check. check.p ≡ p) (λ e. (is_check p ≡ false) × (e ≡ Modulus))
+Approves p result = MatchResult result (λ check. check.p.number ≡ p) (λ e. (is_check p ≡ false) × (e ≡ Modulus))

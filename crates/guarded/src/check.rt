@@ -2,12 +2,14 @@ ghost use Rattle.std.specs.Prelude.{◌≡◌, ◌*◌, ◌%◌, ◌<◌, true};
 ghost use Rattle.roots.specs.Powers.{Powers};
 ghost use Rattle.guarded.specs.Moduli.{is_check, most_redundancy, joint_root};
 
+use rings::Divisor;
+
 pub mod approval;
 
 /// An approved check modulus p, with the numbers that go with it. Made by `try_from` alone.
 #[derive(Clone, Copy)]
 pub(crate) struct CheckModulus {
-    pub(crate) p: u32,
+    pub(crate) p: Divisor,
     // the largest redundancy number whose words fit
     pub(crate) most: u8,
     // the inverse of 3329 modulo p
@@ -16,10 +18,10 @@ pub(crate) struct CheckModulus {
     pub(crate) scale: u32,
     // the powers of the root modulo 3329 p
     pub(crate) powers: &'static [u32; 256],
-    ghost known: { is_check p ≡ true },
-    ghost limit: { most ≡ most_redundancy p },
-    ghost inverts: { (3329 * inverse) % p ≡ 1 },
-    ghost scales: { (128 * scale) % (3329 * p) ≡ 1 },
-    ghost low: { scale < 3329 * p },
-    ghost tabulated: { Powers (joint_root p) (3329 * p) powers.now },
+    ghost known: { is_check p.number ≡ true },
+    ghost limit: { most ≡ most_redundancy p.number },
+    ghost inverts: { (3329 * inverse) % p.number ≡ 1 },
+    ghost scales: { (128 * scale) % (3329 * p.number) ≡ 1 },
+    ghost low: { scale < 3329 * p.number },
+    ghost tabulated: { Powers (joint_root p.number) (3329 * p.number) powers.now },
 }

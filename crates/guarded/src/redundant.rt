@@ -13,12 +13,9 @@ pub struct Redundant {
     n: u32,
     // m
     words: Divisor,
-    // p
-    checks: Divisor,
     ghost some: { 1 ≤ t },
     ghost most: { t ≤ 167 },
-    ghost joint: { n ≡ 3329 * check.p },
-    ghost counts: { words.number ≡ 3329 * check.p * t },
-    ghost fits: { 3329 * check.p * t < 2 ^ 32 },
-    ghost same: { checks.number ≡ check.p },
+    ghost joint: { n ≡ 3329 * check.p.number },
+    ghost counts: { words.number ≡ 3329 * check.p.number * t },
+    ghost fits: { 3329 * check.p.number * t < 2 ^ 32 },
 }

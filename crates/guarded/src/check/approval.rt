@@ -1,7 +1,7 @@
 ghost use Rattle.guarded.specs.CheckModulus.{Approves};
 
 use super::CheckModulus;
-use rings::Refusal;
+use rings::{Divisor, Refusal};
 
 impl TryFrom<u32> for CheckModulus {
     type Error = Refusal;
@@ -11,14 +11,14 @@ impl TryFrom<u32> for CheckModulus {
     fn try_from(p: u32) -> Result<CheckModulus, Refusal> {
         match p {
             7681 => Ok(CheckModulus {
-                p,
+                p: Divisor::of(p),
                 most: 167,
                 inverse: 4520,
                 scale: 25370283,
                 powers: roots::joint_7681(),
             }),
             12289 => Ok(CheckModulus {
-                p,
+                p: Divisor::of(p),
                 most: 103,
                 inverse: 8077,
                 scale: 40590471,

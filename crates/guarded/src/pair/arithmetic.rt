@@ -19,7 +19,7 @@ impl Pair {
     {
         let check = CheckModulus::try_from(p)?;
         let coefficients = Plain::approve(3329)?;
-        let checks = Plain::approve(check.p as u16)?;
+        let checks = Plain::approve(check.p.number as u16)?;
         Ok(Pair {
             coefficients,
             checks,

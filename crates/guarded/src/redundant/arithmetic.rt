@@ -15,16 +15,15 @@ use rings::{Divisor, Refusal, Ring};
 // The ring of a check modulus and an approved t.
 fn made(check: CheckModulus, t: u8) -> Redundant
     requires some { 1 ≤ t }
-    requires most { t ≤ most_redundancy check.p }
+    requires most { t ≤ most_redundancy check.p.number }
     ensures { (result.check ≡ check) × (result.t ≡ t) }
 {
-    let n = 3329 * check.p;
+    let n = 3329 * check.p.number;
     Redundant {
         check,
         t,
         n,
         words: Divisor::of(n * t as u32),
-        checks: Divisor::of(check.p),
     }
 }
 
@@ -56,9 +55,9 @@ impl Ring for Redundant {
 
     ghost meaning = { redundant_meaning };
 
-    ghost odd = { λ s. known_odd s.check.p s.check.known };
+    ghost odd = { λ s. known_odd s.check.p.number s.check.known };
 
-    ghost halfway = { λ s. known_turned s.check.p s.check.known };
+    ghost halfway = { λ s. known_turned s.check.p.number s.check.known };
 
     ghost below = { Prim.search rules };
 
@@ -123,10 +122,10 @@ impl GuardedRing for Redundant {
 
     ghost joint = { Prim.search rules };
 
-    ghost lawful = { λ s. redundant_lawful s.check.p s.t s.check.known s.some s.most };
+    ghost lawful = { λ s. redundant_lawful s.check.p.number s.t s.check.known s.some s.most };
 
     fn check_modulus(&self) -> u32 {
-        self.check.p
+        self.check.p.number
     }
 
     fn redundancy_number(&self) -> u8 {
@@ -134,14 +133,15 @@ impl GuardedRing for Redundant {
     }
 
     fn lift(&self, s: u16, c: u32, k: u8) -> u32 {
-        let gap = c + (self.check.p - s as u32);
+        let gap = c + (self.check.p.number - s as u32);
         let part = self
-            .checks
+            .check
+            .p
             .remainder(gap as u64 * self.check.inverse as u64);
         s as u32 + 3329 * part + self.n * k as u32
     }
 
     fn split(&self, w: u32) -> (u16, u32) {
-        ((w % 3329) as u16, self.checks.remainder(w as u64))
+        ((w % 3329) as u16, self.check.p.remainder(w as u64))
     }
 }
