@@ -133,11 +133,9 @@ impl GuardedRing for Redundant {
     }
 
     fn lift(&self, s: u16, c: u32, k: u8) -> u32 {
-        let gap = c + (self.check.p.number - s as u32);
-        let part = self
-            .check
-            .p
-            .remainder(gap as u64 * self.check.inverse as u64);
+        let p = self.check.p;
+        let gap = c + (p.number - s as u32);
+        let part = p.remainder(gap as u64 * self.check.inverse as u64);
         s as u32 + 3329 * part + self.n * k as u32
     }
 
