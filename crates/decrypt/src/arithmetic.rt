@@ -14,15 +14,9 @@ fn product(u: &[u16], s: &[u16]) -> Option<[u16; 256]>
     let mut transformed = [0u16; 256];
     let mut slots = [0u16; 256];
     let mut result = [0u16; 256];
-    let Ok(()) = forward(u, &mut transformed) else {
-        return None;
-    };
-    let Ok(()) = multiply(&transformed, s, &mut slots) else {
-        return None;
-    };
-    let Ok(()) = inverse(&slots, &mut result) else {
-        return None;
-    };
+    forward(u, &mut transformed).ok()?;
+    multiply(&transformed, s, &mut slots).ok()?;
+    inverse(&slots, &mut result).ok()?;
     Some(result)
 }
 
@@ -58,6 +52,7 @@ fn subtract(w: &[u16; 256], p: &[u16; 256]) -> [u16; 256]
     array::from_fn(|k| difference(w[k], p[k]))
 }
 
+// `decryption::Rows` doesn't take the place of the rank and the rows: this answers for any rank and any lengths, and tests them.
 /// v minus the sum of u[i] * s[i], of `rank` polynomials u and as many transformed polynomials s, each row one after the other; none
 /// where the rows are not so long or a coefficient is above 3328.
 pub fn decrypt(rank: u8, u: &[u16], s: &[u16], v: &[u16]) -> Option<[u16; 256]>

@@ -1,10 +1,16 @@
 -- The ledger through the steps of a decryption.
-use Rattle.std.proofs.Common.{◌≡◌, ℕ, zero, suc, pred, ◌+◌, ◌-◌, ◌*◌, ◌≤◌, Bool, true, false, cond, eqb, List, length, take, drop, sym, refl, ap, ◌∙◌, subst, arith}
+use Rattle.std.proofs.Common.{◌≡◌, ℕ, zero, suc, pred, ◌+◌, ◌-◌, ◌*◌, ◌≤◌, Bool, true, false, cond, eqb, List, [], Ok, Err, length, take, drop, sym, refl, ap, ◌∙◌, subst, arith}
 use mathlib.Core.Path.{fun_ext}
+use Rattle.std.specs.Result.{OnOk}
+use Rattle.std.specs.Prelude.{Result}
+use Rattle.rings.specs.declared.refusal.Refusal.{Refusal}
+use Rattle.histories.specs.Answers.{told}
 use Rattle.std.proofs.lemmas.Bool.{eqb-true, eq-eqb}
 use Rattle.algebra.specs.declared.Direction.{Direction}
 use Rattle.algebra.specs.declared.Direction.TheVariants.{Forward, Inverse}
-use Rattle.guarded.specs.Model.{Guarded}
+use Rattle.rings.specs.declared.ring.Ring.{Ghosts as Members}
+use Rattle.guarded.specs.declared.ring.GuardedRing.{Ghosts as MoreMembers}
+use Rattle.guarded.specs.Model.{Guarded, guarded}
 use Rattle.histories.specs.Operations.{difference_of}
 use Rattle.histories.specs.Calls.{coefficients, State, Call, load, turn, join, part, polynomial, transform, plus, minus, times}
 use Rattle.histories.specs.Serves.{Answer, put, done, Serves}
@@ -13,6 +19,10 @@ use Rattle.histories.specs.Tracked.{Tracked, Keeps}
 use Rattle.histories.proofs.Tracking.{tracks_on}
 use Rattle.decryption.specs.Restored.{part as row}
 use Rattle.decrypt_blinded.specs.Steps.{layers_before, layers_after, products, Turned, Paired, Summed}
+
+-- the model of a ring from its ghost members, where a proof has them in two records
+abbrev pub ring_model : {S W : Type 0} → Members S W → MoreMembers S W → S → Guarded W
+ring_model r h = guarded h.check h.redundancy r.root r.element r.meaning h.number
 
 -- how many layers the register has had after n of them
 abbrev pub layers_now : Direction → (n : ℕ) → ℕ
@@ -85,6 +95,15 @@ module _ {W : Type 0} (G : Guarded W) where
   turned_all s s' words words' way r n e h L f at t =
       subst (λ (k : ℕ). Tracked G s' words' (put r (holds f k) L)) (ap (layers_now way) e ∙ after_all way) (h L f at t)
 
+  -- the last layer, where it is done
+  pub turned_last : (result : Result (Unit {0}) Refusal) (s₁ s₂ s₃ : State) (w₁ w₂ w₃ : List W) (way : Direction) (r n : ℕ) → n ≡ 6 → length w₂ ≡ 2048 →
+      Serves G s₂ (length w₂) (part w₂) (turn way r []) (told result) s₃ (part w₃) →
+      ((L : ℕ → Held) (f : List ℕ) → L r ≡ holds f (layers_before way) → Tracked G s₁ w₁ L → Tracked G s₂ w₂ (put r (holds f (layers_now way n)) L)) →
+      OnOk result (Turned G s₁ w₁ s₃ w₃ way r)
+  turned_last (Ok u) s₁ s₂ s₃ w₁ w₂ w₃ way r n e size served h =
+      turned_all s₁ s₃ w₁ w₃ way r (n + 1) (omega arith) (λ L f at t. turned_more s₂ s₃ w₂ w₃ way r [] n L f size served (h L f at t))
+  turned_last (Err why) s₁ s₂ s₃ w₁ w₂ w₃ way r n e size served h = tt
+
   -- u and the values xs are loaded, and u has had all layers
   pub pairs : (s₀ s₁ s₂ s₃ : State) (w₀ w₁ w₂ w₃ : List W) (u xs : List ℕ) (c c' : ℕ) (bytes bytes' : List ℕ) → length w₀ ≡ 2048 → length w₂ ≡ 2048 →
       Serves G s₀ (length w₀) (part w₀) (load polynomial 0 u c bytes) done s₁ (part w₁) → Turned G s₁ w₁ s₂ w₂ Forward 0 →
@@ -118,16 +137,14 @@ module _ {W : Type 0} (G : Guarded W) where
         here = rw kept.here refl;
       }
 
-  pub continues_at : (s₁ s₂ s₃ s₄ : State) (w₁ w₂ w₃ w₄ : List W) (us ss : List ℕ) (i : ℕ) → 1 ≤ i → length w₂ ≡ 2048 → length w₃ ≡ 2048 →
-      Keeps G s₁ w₁ 2 (products us ss (i - 1)) 7 → Paired G s₁ w₁ s₂ w₂ (row us i) (row ss i) →
+  pub continues_at : (s₁ s₂ s₃ s₄ : State) (w₁ w₂ w₃ w₄ : List W) (us ss : List ℕ) (k : ℕ) → length w₂ ≡ 2048 → length w₃ ≡ 2048 →
+      Keeps G s₁ w₁ 2 (products us ss k) 7 → Paired G s₁ w₁ s₂ w₂ (row us (k + 1)) (row ss (k + 1)) →
       Serves G s₂ (length w₂) (part w₂) (join times 0 0 1) done s₃ (part w₃) → Serves G s₃ (length w₃) (part w₃) (join plus 2 2 0) done s₄ (part w₄) →
-      Keeps G s₄ w₄ 2 (products us ss (i + 1 - 1)) 7
-  continues_at s₁ s₂ s₃ s₄ w₁ w₂ w₃ w₄ us ss zero low size size' kept paired first second = absurd (omega arith)
-  continues_at s₁ s₂ s₃ s₄ w₁ w₂ w₃ w₄ us ss (suc k) low size size' kept paired first second =
-      let before : suc k - 1 ≡ k = omega arith in
-      let after : suc k ≡ suc k + 1 - 1 = omega arith in
-      subst (λ (n : ℕ). Keeps G s₄ w₄ 2 (products us ss n) 7) after
-      (continues s₁ s₂ s₃ s₄ w₁ w₂ w₃ w₄ us ss k size size' (subst (λ (n : ℕ). Keeps G s₁ w₁ 2 (products us ss n) 7) before kept) paired first second)
+      Keeps G s₄ w₄ 2 (products us ss (k + 1)) 7
+  continues_at s₁ s₂ s₃ s₄ w₁ w₂ w₃ w₄ us ss k size size' kept paired first second =
+      let e : k + 1 ≡ suc k = omega arith in
+      rw e
+      (continues s₁ s₂ s₃ s₄ w₁ w₂ w₃ w₄ us ss k size size' kept (subst (λ (n : ℕ). Paired G s₁ w₁ s₂ w₂ (row us n) (row ss n)) e paired) first second)
 
   -- the sum is taken back and subtracted from v
   pub finishes : (s₁ s₂ s₃ s₄ : State) (w₁ w₂ w₃ w₄ : List W) (v f : List ℕ) (c : ℕ) (bytes : List ℕ) → length w₂ ≡ 2048 → length w₃ ≡ 2048 →
@@ -137,7 +154,3 @@ module _ {W : Type 0} (G : Guarded W) where
       let t₂ = turned kept.all f kept.here kept.tracked in
       let t₃ = tracks_on G s₂ s₃ w₂ w₃ _ size (load polynomial 0 v c bytes) done refl first t₂ in
       record { all = _; tracked = tracks_on G s₃ s₄ w₃ w₄ _ size' (join minus 0 0 2) done refl second t₃; here = refl }
-
--- polynomial i of a row, as the code lends it
-pub row_lent : (xs : List ℕ) (i : ℕ) → take (256 * i + 256 - 256 * i) (drop (256 * i) xs) ≡ row xs i
-row_lent xs i = let e : 256 * i + 256 - 256 * i ≡ 256 = omega arith in ap (λ (n : ℕ). take n (drop (256 * i) xs)) e

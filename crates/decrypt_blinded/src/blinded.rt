@@ -9,28 +9,20 @@ ghost use Rattle.records.specs.Tables.{state};
 ghost use Rattle.decrypt_blinded.specs.Steps.{Turned, Paired, Summed};
 ghost use Rattle.decrypt_blinded.specs.Decryption.{Decrypted};
 
+use crate::rows::BlindedRows;
 use algebra::Direction;
+use decryption::Rows;
 use guarded::GuardedRing;
 use rings::{Refusal, Ring};
 use workspace::Workspace;
 
 // The witness in two bytes.
 fn witness(high: u8, low: u8) -> u32 {
-    256 * high as u32 + low as u32
+    u16::from_be_bytes([high, low]).into()
 }
 
-// The masks of layer n, counted from 0: 16 for each layer but the last, which takes none.
-fn masks_of(masks: &[u8], n: usize) -> &[u8]
-    requires { length masks.now ≡ 96 }
-{
-    if n < 6 {
-        &masks[16 * n..16 * n + 16]
-    } else {
-        &[]
-    }
-}
-
-// One layer of register r in this direction.
+// One layer of register r in this direction. The public calls of a workspace, as those in C, are one for each direction: here one of
+// them is chosen.
 fn turn_one<G: GuardedRing>(
     space: &mut Workspace<G>,
     words: &mut [G::Word],
@@ -47,7 +39,7 @@ fn turn_one<G: GuardedRing>(
     }
 }
 
-// All seven layers of register r in one direction.
+// All seven layers of register r in one direction: 16 masks for each layer but the last, which takes none.
 fn turn_all<G: GuardedRing>(
     space: &mut Workspace<G>,
     words: &mut [G::Word],
@@ -59,11 +51,10 @@ fn turn_all<G: GuardedRing>(
     ensures keeps { space.new.ring ≡ space.old.ring }
     ensures turned { OnOk result (Turned (model G.GuardedRing space.old.ring) (state space.old.table) words.old (state space.new.table) words.new way r) }
 {
-    for n in 0..7 {
-        let list = masks_of(masks, n);
+    for list in masks.chunks_exact(16) {
         turn_one(space, words, way, r, list)?;
     }
-    Ok(())
+    turn_one(space, words, way, r, &[])
 }
 
 // Puts the transform of u into register 0 and the transform with the values s into register 1, blinded by 612 random bytes.
@@ -94,33 +85,28 @@ fn load_pair<G: GuardedRing>(
 fn sum_products<G: GuardedRing>(
     space: &mut Workspace<G>,
     words: &mut [G::Word],
-    rank: usize,
-    u: &[u16],
-    s: &[u16],
-    random: &[u8],
+    blinded: &BlindedRows,
 ) -> Result<(), Refusal>
-    requires rank { (1 ≤ rank) × (rank ≤ 4) }
-    requires sizes { (length words.old ≡ 2048) × ((length u.now ≡ 256 * rank) × ((length s.now ≡ 256 * rank) × (length random.now ≡ 612 * rank))) }
+    requires { length words.old ≡ 2048 }
     ensures keeps { space.new.ring ≡ space.old.ring }
-    ensures summed { OnOk result (Summed (model G.GuardedRing space.old.ring) (state space.old.table) words.old (state space.new.table) words.new u.now s.now (rank - 1)) }
+    ensures summed { OnOk result (Summed (model G.GuardedRing space.old.ring) (state space.old.table) words.old (state space.new.table) words.new blinded.now.rows.u.now blinded.now.rows.s.now (blinded.now.rows.rank.number - 1)) }
 {
-    load_pair(space, words, &u[0..256], &s[0..256], &random[0..612])?;
+    let Rows { u, s, .. } = blinded.rows;
+    let (u_0, more_u) = u.split_at(256);
+    let (s_0, more_s) = s.split_at(256);
+    let (first, more) = blinded.random.split_at(612);
+    load_pair(space, words, u_0, s_0, first)?;
     space.multiply(words, 2, 0, 1)?;
-    for i in 1..rank {
-        load_pair(
-            space,
-            words,
-            &u[256 * i..256 * i + 256],
-            &s[256 * i..256 * i + 256],
-            &random[612 * i..612 * i + 612],
-        )?;
+    let factors = more_u.chunks_exact(256).zip(more_s.chunks_exact(256));
+    for ((u_i, s_i), bytes) in factors.zip(more.chunks_exact(612)) {
+        load_pair(space, words, u_i, s_i, bytes)?;
         space.multiply(words, 0, 0, 1)?;
         space.add(words, 2, 2, 0)?;
     }
     Ok(())
 }
 
-/// Writes v minus the sum of u[i] * s[i] into out: `rank` polynomials u and as many transforms s, each row one after the other.
+/// Writes v minus the sum of u[i] * s[i] into out: u and s are rows of as many polynomials and transforms as the rank says.
 ///
 /// The random bytes serve in the order of use: for each i the witness of u in two bytes, the numbers of its words, 16 masks for each
 /// of six layers, the witness of s and its numbers; then 96 masks of the inverse, and the witness and the numbers of v.
@@ -128,29 +114,18 @@ fn sum_products<G: GuardedRing>(
 pub fn decrypt<G: GuardedRing>(
     space: &mut Workspace<G>,
     words: &mut [G::Word],
-    rank: usize,
-    u: &[u16],
-    s: &[u16],
-    v: &[u16],
-    random: &[u8],
+    blinded: &BlindedRows,
     out: &mut [u16; 256],
 ) -> Result<(), Refusal>
-    requires rank { (1 ≤ rank) × (rank ≤ 4) }
-    requires sizes { (length words.old ≡ 2048) × ((length u.now ≡ 256 * rank) × ((length s.now ≡ 256 * rank) × (length random.now ≡ 612 * rank + 354))) }
+    requires { length words.old ≡ 2048 }
     ensures keeps { space.new.ring ≡ space.old.ring }
-    ensures right { OnOk result ((L : ℕ → Held) → Tracked (model G.GuardedRing space.old.ring) (state space.old.table) words.old L → Decrypted rank u.now s.now v.now out.new) }
+    ensures right { OnOk result ((L : ℕ → Held) → Tracked (model G.GuardedRing space.old.ring) (state space.old.table) words.old L → Decrypted blinded.now.rows.rank.number blinded.now.rows.u.now blinded.now.rows.s.now blinded.now.rows.v.now out.new) }
 {
-    let used = 612 * rank;
-    sum_products(space, words, rank, u, s, &random[0..used])?;
-    turn_all(
-        space,
-        words,
-        Direction::Inverse,
-        2,
-        &random[used..used + 96],
-    )?;
-    let c = witness(random[used + 96], random[used + 97]);
-    space.load(words, 0, v, c, &random[used + 98..used + 354])?;
+    let Rows { rank, v, .. } = blinded.rows;
+    let (_, random) = blinded.random.split_at(612 * rank.number as usize);
+    sum_products(space, words, blinded)?;
+    turn_all(space, words, Direction::Inverse, 2, &random[..96])?;
+    space.load(words, 0, v, witness(random[96], random[97]), &random[98..])?;
     space.subtract(words, 0, 0, 2)?;
     let mut scratch = [0u32; 256];
     space.release(words, 0, out, &mut scratch)?;

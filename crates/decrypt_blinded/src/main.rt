@@ -3,6 +3,7 @@
 ghost use Rattle.std.specs.Prelude.{◌≡◌, ◌+◌, ◌*◌, length, IfOk, vec_len};
 
 mod blinded;
+mod rows;
 mod trial;
 
 use anyhow::anyhow;
@@ -11,6 +12,7 @@ use decryption::{Rank, Rows};
 use guarded::{Pair, Redundant, Residues};
 use input::numbers;
 use rings::Refusal;
+use rows::BlindedRows;
 use std::alloc::Global;
 use std::io;
 use trial::{Trial, decrypt_and_strike};
@@ -41,14 +43,10 @@ fn report(rt: &HostRuntime, outcome: Result<Trial, Refusal>) -> anyhow::Result<(
             println!(rt; "")?;
             match trial.struck {
                 Ok(_) => println!(rt; "struck word 255: released all the same")?,
-                Err(why) => println!(rt;
-                    "struck word 255: release refused, number {}, place {}",
-                    why.number(),
-                    why.place()
-                )?,
+                Err(why) => println!(rt; "struck word 255: release refused, {why}")?,
             }
         }
-        Err(why) => println!(rt; "refused, number {}, place {}", why.number(), why.place())?,
+        Err(why) => println!(rt; "refused, {why}")?,
     }
     Ok(())
 }
@@ -58,14 +56,9 @@ fn decrypt_on_both(
     rt: &HostRuntime,
     redundant: Redundant,
     pair: Pair,
-    rows: Rows,
-    masked: &[u8],
-    paired: &[u8],
-) -> anyhow::Result<()>
-    requires { (length masked.now ≡ 612 * rows.rank.number + 354) × (length paired.now ≡ 612 * rows.rank.number + 354) }
-{
-    let Rows { rank, u, s, v } = rows;
-    let rank = rank.number as usize;
+    masked: BlindedRows,
+    paired: BlindedRows,
+) -> anyhow::Result<()> {
     let mut words = [0u32; 2048];
     let mut pairs = [Residues {
         coefficient: 0,
@@ -74,8 +67,8 @@ fn decrypt_on_both(
     let mut first = Workspace::open(redundant);
     let mut second = Workspace::open(pair);
     let alike = first.comparable(&second);
-    let one = decrypt_and_strike(&mut first, &mut words, rank, u, s, v, masked);
-    let two = decrypt_and_strike(&mut second, &mut pairs, rank, u, s, v, paired);
+    let one = decrypt_and_strike(&mut first, &mut words, &masked);
+    let two = decrypt_and_strike(&mut second, &mut pairs, &paired);
     first.close(&mut words);
     second.close(&mut pairs);
     println!(rt; "redundant ring: v minus the sum of u[i] * s[i], modulo X^256 + 1 and 3329")?;
@@ -93,9 +86,9 @@ fn decrypt_on_both(
 // Takes the numbers after the rank apart: the moduli, the rows, and the random bytes of each ring.
 fn decrypt_numbers(rt: &HostRuntime, rank: Rank, numbers: &[u16]) -> anyhow::Result<()> {
     let number = rank.number as usize;
-    let rows = 512 * number + 256;
+    let size = 512 * number + 256;
     let random = 612 * number + 354;
-    if numbers.len() != 2 + rows + 2 * random {
+    if numbers.len() != 2 + size + 2 * random {
         return Err(anyhow!(
             "\"the input has not p, t, 2 k + 1 polynomials and two lists of 612 k + 354 bytes\""
         ));
@@ -104,10 +97,10 @@ fn decrypt_numbers(rt: &HostRuntime, rank: Rank, numbers: &[u16]) -> anyhow::Res
     let Ok(t) = u8::try_from(numbers[1]) else {
         return Err(anyhow!("\"t is above 255\""));
     };
-    let masked = bytes(rt.alloc(), &numbers[2 + rows..2 + rows + random])?;
+    let masked = bytes(rt.alloc(), &numbers[2 + size..2 + size + random])?;
     let paired = bytes(
         rt.alloc(),
-        &numbers[2 + rows + random..2 + rows + 2 * random],
+        &numbers[2 + size + random..2 + size + 2 * random],
     )?;
     let Ok(redundant) = Redundant::approve(p as u32, t) else {
         return Err(anyhow!("\"p or t is not approved\""));
@@ -118,14 +111,16 @@ fn decrypt_numbers(rt: &HostRuntime, rank: Rank, numbers: &[u16]) -> anyhow::Res
     println!(rt;
         "rank {number}, p = {p}, t = {t}: read {number} polynomials u, {number} transformed polynomials s and the polynomial v"
     )?;
-    decrypt_on_both(
-        rt,
-        redundant,
-        pair,
-        Rows::split(rank, &numbers[2..2 + rows]),
-        masked.as_slice(),
-        paired.as_slice(),
-    )
+    let rows = Rows::split(rank, &numbers[2..2 + size]);
+    let masked = BlindedRows {
+        rows,
+        random: masked.as_slice(),
+    };
+    let paired = BlindedRows {
+        rows,
+        random: paired.as_slice(),
+    };
+    decrypt_on_both(rt, redundant, pair, masked, paired)
 }
 
 fn run(rt: &HostRuntime) -> anyhow::Result<()> {

@@ -4,6 +4,7 @@ ghost use Rattle.records.specs.Tables.{state};
 ghost use Rattle.decrypt_blinded.specs.Decryption.{Decrypted};
 
 use crate::blinded::decrypt;
+use crate::rows::BlindedRows;
 use guarded::GuardedRing;
 use histories::Form;
 use rings::{Refusal, Ring};
@@ -21,19 +22,14 @@ pub struct Trial {
 pub fn decrypt_and_strike<G: GuardedRing>(
     space: &mut Workspace<G>,
     words: &mut [G::Word],
-    rank: usize,
-    u: &[u16],
-    s: &[u16],
-    v: &[u16],
-    random: &[u8],
+    blinded: &BlindedRows,
 ) -> Result<Trial, Refusal>
     requires opened { state space.old.table ≡ opened }
-    requires rank { (1 ≤ rank) × (rank ≤ 4) }
-    requires sizes { (length words.old ≡ 2048) × ((length u.now ≡ 256 * rank) × ((length s.now ≡ 256 * rank) × (length random.now ≡ 612 * rank + 354))) }
-    ensures { IfOk result (λ t. Decrypted rank u.now s.now v.now t.numbers) }
+    requires size { length words.old ≡ 2048 }
+    ensures { IfOk result (λ t. Decrypted blinded.now.rows.rank.number blinded.now.rows.u.now blinded.now.rows.s.now blinded.now.rows.v.now t.numbers) }
 {
     let mut numbers = [0u16; 256];
-    decrypt(space, words, rank, u, s, v, random, &mut numbers)?;
+    decrypt(space, words, blinded, &mut numbers)?;
     words[255] = words[254];
     let mut out = [0u16; 256];
     let mut scratch = [0u32; 256];

@@ -1,16 +1,13 @@
 use Rattle.std.proofs.Common.{◌∙◌, subst, arith}
 use Rattle.algebra.specs.declared.Direction.TheVariants.{Forward}
-use Rattle.guarded.specs.Model.{guarded}
 use Rattle.records.specs.Tables.{state}
 use Rattle.decrypt_blinded.specs.Steps.{Turned}
-use Rattle.decrypt_blinded.proofs.Stepping.{serves_in, pairs}
+use Rattle.decrypt_blinded.proofs.Stepping.{ring_model, serves_in, pairs}
 use Rattle.decrypt_blinded.proofs.blinded.load_pair.Goals as goal
 
 pub returns : goal.returns
 returns g c =
-    let r = g.G.Ring in
-    let h = g.G.GuardedRing in
-    let model = guarded h.check h.redundancy r.root r.element r.meaning h.number in
+    let M = ring_model g.G.Ring g.G.GuardedRing in
     let first = c.in_ok-load.ensures in
     let all = c.in_ok-turn_all.ensures in
     let second = c.in_ok-load_hat.ensures in
@@ -19,7 +16,7 @@ returns g c =
     record {
       keeps = second.keeps ∙ ring₂;
       paired =
-          pairs (model c.args.space.now.ring) _ _ _ _ _ _ _ _ _ _ _ _ _ _ (omega arith) (omega arith) first.serves
-          (subst (λ q. Turned (model q) (state c.load.new.self.table) c.load.new.words (state c.turn_all.new.space.table) c.turn_all.new.words Forward 0) ring₁ all.turned)
-          (serves_in model ring₂ second.serves);
+          pairs (M c.args.space.now.ring) _ _ _ _ _ _ _ _ _ _ _ _ _ _ (omega arith) (omega arith) first.serves
+          (subst (λ q. Turned (M q) (state c.load.new.self.table) c.load.new.words (state c.turn_all.new.space.table) c.turn_all.new.words Forward 0) ring₁ all.turned)
+          (serves_in M ring₂ second.serves);
     }

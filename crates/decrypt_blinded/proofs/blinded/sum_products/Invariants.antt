@@ -1,16 +1,22 @@
-use Rattle.std.proofs.Common.{◌≡◌, ◌-◌}
-use Rattle.guarded.specs.Model.{guarded}
+use Rattle.std.proofs.Common.{◌≡◌, length}
+use Rattle.std.specs.Iterator.Adapters.{zip_first, zip_second}
 use Rattle.histories.specs.Tracked.{Keeps}
 use Rattle.records.specs.Tables.{state}
 use Rattle.decrypt_blinded.specs.Steps.{products}
+use Rattle.decrypt_blinded.proofs.Walking.{Walked}
+use Rattle.decrypt_blinded.proofs.Stepping.{ring_model}
 use Rattle.decrypt_blinded.proofs.blinded.sum_products.Given as goal
 
 -- since the loop began
-abbrev pub invariant-loop-i : goal.invariant-loop-i
-invariant-loop-i g l =
-    let r = g.G.Ring in
-    let h = g.G.GuardedRing in
-    let model = guarded h.check h.redundancy r.root r.element r.meaning h.number l.initial.space.ring in
-    (l.space.ring ≡ l.initial.space.ring)
-    × (Keeps model (state l.initial.space.table) l.initial.words 2 (products l.u l.s 0) 7 →
-    Keeps model (state l.space.table) l.words 2 (products l.u l.s (l.i - 1)) 7)
+abbrev pub invariant-loop-u_i : goal.invariant-loop-u_i
+invariant-loop-u_i g l =
+    let M = ring_model g.G.Ring g.G.GuardedRing l.initial.space.ring in
+    let n = length l.yielded in
+    let us = l.blinded.rows.u.now in
+    let ss = l.blinded.rows.s.now in
+    let factors = zip_first l.u_i-iterator in
+    (goal.iterator-loop-u_i g).can_next l.u_i-iterator
+    × (goal.iterator-loop-u_i g).is_finite l.u_i-iterator
+    × (l.space.ring ≡ l.initial.space.ring)
+    × Walked n us ss l.blinded.random.now (zip_first factors) (zip_second factors) (zip_second l.u_i-iterator)
+    × (Keeps M (state l.initial.space.table) l.initial.words 2 (products us ss 0) 7 → Keeps M (state l.space.table) l.words 2 (products us ss n) 7)
