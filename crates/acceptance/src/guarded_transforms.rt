@@ -18,10 +18,7 @@ fn guarded_rings_give_the_plain_transform(rt: HostRuntime) -> Result<(), Fail> {
 
     out = [9; 256];
     let pair = Pair::approve(7681)?;
-    let mut pairs: [Residues; 256] = [Residues {
-        coefficient: 0,
-        check: 0,
-    }; 256];
+    let mut pairs: [Residues; 256] = [Residues::default(); 256];
     forward_guarded(&pair, &f, &mut pairs, &mut out)?;
     assert!(rt; out == plain);
     Ok(())

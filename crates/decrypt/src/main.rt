@@ -28,11 +28,7 @@ fn run(rt: &HostRuntime) -> anyhow::Result<()> {
         return Err(anyhow!("\"a coefficient is above 3328\""));
     };
     println!(rt; "computed v minus the sum of u[i] * s[i], modulo X^256 + 1 and 3329")?;
-    print!(rt; "message ")?;
-    for byte in message(&w) {
-        print!(rt; "{byte:02x}")?;
-    }
-    println!(rt; "")?;
+    println!(rt; "message {}", hex::encode(rt.alloc(), message(&w))?)?;
     Ok(())
 }
 

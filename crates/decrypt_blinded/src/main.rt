@@ -36,11 +36,10 @@ fn bytes(heap: Global, numbers: &[u16]) -> anyhow::Result<Vec<u8>>
 fn report(rt: &HostRuntime, outcome: Result<Trial, Refusal>) -> anyhow::Result<()> {
     match outcome {
         Ok(trial) => {
-            print!(rt; "message ")?;
-            for byte in message(&trial.numbers) {
-                print!(rt; "{byte:02x}")?;
-            }
-            println!(rt; "")?;
+            println!(rt;
+                "message {}",
+                hex::encode(rt.alloc(), message(&trial.numbers))?
+            )?;
             match trial.struck {
                 Ok(_) => println!(rt; "struck word 255: released all the same")?,
                 Err(why) => println!(rt; "struck word 255: release refused, {why}")?,
@@ -60,10 +59,7 @@ fn decrypt_on_both(
     paired: BlindedRows,
 ) -> anyhow::Result<()> {
     let mut words = [0u32; 2048];
-    let mut pairs = [Residues {
-        coefficient: 0,
-        check: 0,
-    }; 2048];
+    let mut pairs = [Residues::default(); 2048];
     let mut first = Workspace::open(redundant);
     let mut second = Workspace::open(pair);
     let alike = first.comparable(&second);

@@ -22,10 +22,7 @@ fn serve_redundant(
 fn serve_pair(heap: Global, p: &str, f: &str, out: &mut [u16; 256]) -> Result<(), Unserved> {
     let f = numbers::<u16>(heap, f)?;
     let ring = Pair::approve(p.parse()?)?;
-    let zero = Residues {
-        coefficient: 0,
-        check: 0,
-    };
+    let zero = Residues::default();
     forward_guarded(&ring, &f, &mut [zero; 256], out)?;
     Ok(())
 }

@@ -39,10 +39,7 @@ fn closing_wipes_the_words_however_many(rt: HostRuntime) -> Result<(), Fail> {
         coefficient: 9,
         check: 65535,
     };
-    let zero = Residues {
-        coefficient: 0,
-        check: 0,
-    };
+    let zero = Residues::default();
     let mut pairs = [nine; 2048];
     Workspace::open(Pair::approve(7681)?).close(&mut pairs);
     assert!(rt; pairs == [zero; 2048]);

@@ -130,17 +130,12 @@ fn in_a_redundant_ring(rt: &impl Abort, p: u32, t: u8, mask: u8, byte: u8) -> Re
     in_a_workspace(ring, 0, |space, words| all(rt, space, words, mask, byte))
 }
 
-const NOTHING: Residues = Residues {
-    coefficient: 0,
-    check: 0,
-};
-
 #[test]
 fn sums_and_products_are_the_same_in_every_ring(rt: HostRuntime) -> Result<(), Fail> {
     in_a_redundant_ring(&rt, 7681, 1, 0, 0)?;
     in_a_redundant_ring(&rt, 7681, 3, 200, 2)?;
     in_a_redundant_ring(&rt, 12289, 103, 3, 101)?;
-    in_a_workspace(Pair::approve(7681)?, NOTHING, |space, words| {
+    in_a_workspace(Pair::approve(7681)?, Residues::default(), |space, words| {
         all(&rt, space, words, 99, 0)
     })
 }
