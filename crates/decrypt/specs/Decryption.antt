@@ -1,5 +1,5 @@
 -- The arithmetic of decryption: v minus the sum of u[i] * s[i], modulo X ^ 256 + 1 and 3329.
-use Rattle.std.specs.Prelude.{◌≡◌, ℕ, ◌+◌, ◌*◌, ◌<◌, List, length, Option, MatchOption}
+use Rattle.std.specs.Prelude.{◌≡◌, ℕ, ◌*◌, ◌<◌, List, length, Option, MatchOption}
 use Rattle.algebra.specs.Product.{product}
 use Rattle.algebra.specs.Polynomials.{coefficient, Polynomial}
 use Rattle.transform.specs.Results.{inverse_of}

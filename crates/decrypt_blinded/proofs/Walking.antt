@@ -1,5 +1,5 @@
 -- A walk over the factors and the random bytes of each product after the first.
-use Rattle.std.proofs.Common.{◌≡◌, ℕ, ◌+◌, ◌-◌, ◌*◌, ◌<◌, ◌⊎◌, List, Some, None, length, ⊎_elim, arith}
+use Rattle.std.proofs.Common.{◌≡◌, ℕ, ◌+◌, ◌-◌, ◌*◌, ◌⊎◌, List, None, length, ⊎_elim, arith}
 use denote.Ref.{Bor}
 use Rattle.std.specs.Slice.Iter.{chunks_exact_steps}
 use Rattle.std.specs.declared.slice.ChunksExact.{ChunksExact}

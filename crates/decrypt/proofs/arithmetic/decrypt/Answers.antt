@@ -1,4 +1,4 @@
-use Rattle.std.proofs.Common.{◌≡◌, ◌+◌, ◌-◌, ◌*◌, ◌<◌, List, length, sym, subst, rules, arith}
+use Rattle.std.proofs.Common.{◌<◌, length, sym, subst, rules, arith}
 use Rattle.std.proofs.lemmas.List.{length_push}
 use Rattle.std.specs.Iterator.Adapters.{zip_first, zip_second}
 use Rattle.algebra.specs.Polynomials.{Polynomial}

@@ -1,4 +1,4 @@
-use Rattle.std.proofs.Common.{◌≡◌, ℕ, ◌+◌, ◌<◌, rules, arith}
+use Rattle.std.proofs.Common.{◌+◌, ◌<◌, rules, arith}
 use Rattle.algebra.specs.Congruence.{Same}
 use Rattle.algebra.specs.Polynomials.{coefficient}
 use Rattle.decryption.proofs.Calls.{made}
