@@ -22,14 +22,10 @@ use workspace::Workspace;
 fn bytes(heap: Global, numbers: &[u16]) -> anyhow::Result<Vec<u8>>
     ensures { IfOk result (λ all. vec_len all ≡ length numbers.now) }
 {
-    let mut all = Vec::new(heap);
-    for n in numbers {
-        let Ok(byte) = u8::try_from(*n) else {
-            return Err(anyhow!("\"a random byte is above 255\""));
-        };
-        all.push(byte)?;
-    }
-    Ok(all)
+    numbers
+        .iter()
+        .map(|n| u8::try_from(*n).map_err(|_| anyhow!("\"a random byte is above 255\"")))
+        .try_collect(heap)
 }
 
 // Prints what came of one ring: the message, and how the release after the strike was answered.

@@ -11,7 +11,7 @@ fn bit(x: u16) -> u8
     if 833 <= x && x <= 2496 { 1 } else { 0 }
 }
 
-// The byte that eight coefficients stand for.
+// The byte that eight coefficients stand for. Written out as the definition is: a fold over the bits would be no shorter.
 fn byte(w: &[u16; 256], k: usize) -> u8
     requires { k + 7 < 256 }
     ensures { result ≡ byte_at w.now k }

@@ -42,6 +42,7 @@ pub fn numbers<T: FromStr<Err = ParseIntError> + Drop>(
     ensures { MatchResult result (λ all. Reads T.from_str_gives text.now all.items) (Fails T.from_str_gives text.now) }
 {
     let mut all = Vec::new(heap);
+    // A `for`: of `try_collect` it isn't known that it fails where a word is no number, and the contract says so.
     for word in text.split_whitespace() {
         all.push(word.parse::<T>()?)?;
     }
