@@ -21,6 +21,8 @@ fn witness(high: u8, low: u8) -> u32 {
     u16::from_be_bytes([high, low]).into()
 }
 
+// Each function says that the ring stays, as each call of the workspace does.
+
 // One layer of register r in this direction. The public calls of a workspace, as those in C, are one for each direction: here one of
 // them is chosen.
 fn turn_one<G: GuardedRing>(

@@ -32,6 +32,7 @@ pub enum Field<'a> {
 
 impl Field<'_> {
     /// Its tag letter.
+    // A match, since the variants carry their contents; by `Kind` it would be the same match twice.
     pub fn tag(&self) -> u8
         ensures { result ≡ mark self.now }
     {

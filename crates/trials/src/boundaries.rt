@@ -58,6 +58,7 @@ fn strike_each_boundary(
         Direction::Forward => Kind::Polynomial,
         Direction::Inverse => Kind::Transform,
     };
+    // The boundary is an argument, and no index into a slice.
     for boundary in 0..8 {
         load(space, words, kind, 0, &f, 5, &[1; 256])?;
         run(space, words, way, boundary)?;
