@@ -1,6 +1,7 @@
 #![tactic(auto)]
 
 // Examples of what a workspace takes, refuses and finds; each is proved, and then run. Nothing outside uses this crate.
+// The runtime, a workspace and its words stay three parameters: a struct of them would hold two `&mut`, made for each call and taken apart in it.
 
 #[cfg(test)]
 mod arguments;
