@@ -181,13 +181,10 @@ fn answer_all(
 }
 
 /// Runs a part of a test in a new workspace whose words are all this word, and closes the workspace.
-pub(crate) fn in_a_workspace<G: GuardedRing + Drop, F>(
-    ring: G,
-    word: G::Word,
-    run: F,
-) -> Result<(), Fail>
+// Over the redundant ring alone: of an array of any ring's words it is not known that it fits in memory.
+pub(crate) fn in_a_workspace<F>(ring: Redundant, word: u32, run: F) -> Result<(), Fail>
 where
-    F: FnOnce(&mut Workspace<G>, &mut [G::Word; 2048]) -> Result<(), Fail>,
+    F: FnOnce(&mut Workspace<Redundant>, &mut [u32; 2048]) -> Result<(), Fail>,
     requires { F.IsAlwaysCallable run }
 {
     let mut space = Workspace::open(ring);

@@ -135,9 +135,11 @@ fn sums_and_products_are_the_same_in_every_ring(rt: HostRuntime) -> Result<(), F
     in_a_redundant_ring(&rt, 7681, 1, 0, 0)?;
     in_a_redundant_ring(&rt, 7681, 3, 200, 2)?;
     in_a_redundant_ring(&rt, 12289, 103, 3, 101)?;
-    in_a_workspace(Pair::approve(7681)?, Residues::default(), |space, words| {
-        all(&rt, space, words, 99, 0)
-    })
+    let mut space = Workspace::open(Pair::approve(7681)?);
+    let mut words = [Residues::default(); 2048];
+    let answer = all(&rt, &mut space, &mut words, 99, 0);
+    space.close(&mut words);
+    answer
 }
 
 #[test]
