@@ -1,3 +1,5 @@
+ghost use Rattle.std.specs.Prelude.{◌≡◌, OnErr};
+
 use crate::unserved::{Unserved, Way};
 use guarded::{Pair, Redundant, Residues};
 use input::numbers;
@@ -11,7 +13,9 @@ fn serve_redundant(
     t: &str,
     f: &str,
     out: &mut [u16; 256],
-) -> Result<(), Unserved> {
+) -> Result<(), Unserved>
+    ensures { OnErr result (out.new ≡ out.old) }
+{
     let f = numbers::<u16>(heap, f)?;
     let ring = Redundant::approve(p.parse()?, t.parse()?)?;
     forward_guarded(&ring, &f, &mut [0; 256], out)?;
@@ -19,7 +23,9 @@ fn serve_redundant(
 }
 
 // The transform in the pair ring of p.
-fn serve_pair(heap: Global, p: &str, f: &str, out: &mut [u16; 256]) -> Result<(), Unserved> {
+fn serve_pair(heap: Global, p: &str, f: &str, out: &mut [u16; 256]) -> Result<(), Unserved>
+    ensures { OnErr result (out.new ≡ out.old) }
+{
     let f = numbers::<u16>(heap, f)?;
     let ring = Pair::approve(p.parse()?)?;
     let zero = Residues::default();
@@ -34,7 +40,9 @@ fn serve_layer(
     number: &str,
     parts: [&str; 3],
     out: &mut [u16; 256],
-) -> Result<(), Unserved> {
+) -> Result<(), Unserved>
+    ensures { OnErr result (out.new ≡ out.old) }
+{
     let [f, incoming, outgoing] = parts;
     let Way(way) = way.parse()?;
     let number = number.parse()?;
@@ -45,8 +53,10 @@ fn serve_layer(
     Ok(())
 }
 
-/// Runs the call that a line names, and writes its result into out.
-pub fn serve(heap: Global, line: &str, out: &mut [u16; 256]) -> Result<(), Unserved> {
+/// Runs the call that a line names, and writes its result into out. An error leaves out as it was.
+pub fn serve(heap: Global, line: &str, out: &mut [u16; 256]) -> Result<(), Unserved>
+    ensures { OnErr result (out.new ≡ out.old) }
+{
     let parts: Vec<&str> = line.split('|').collect(heap)?;
     let [head, rest @ ..] = parts.as_slice() else {
         return Err(Unserved::Unreadable);
