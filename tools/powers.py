@@ -40,7 +40,7 @@ def table(name, word, modulus, root):
 def main():
     head = (
         "#![tactic(auto)]\n\n// Written by tools/powers.py.\n"
-        "// A ring takes its table once, when it is approved, and keeps it.\n"
+        "// A ring asks for its table at each power, and keeps no reference to it.\n"
         "// The five are one form already: a table and what it holds. Their words differ, u16 and u32, so one function for all would need a\n"
         "// trait of words with two impls and a type for each root beside the same five tables, and would be no plainer.\n"
         "ghost use Rattle.roots.specs.Powers.{Powers};\n\n"

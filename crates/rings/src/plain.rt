@@ -1,6 +1,5 @@
 ghost use Rattle.std.specs.Prelude.{◌≡◌, ◌*◌, ◌/◌, ◌%◌, ◌^◌, ◌<◌, true};
-ghost use Rattle.roots.specs.Powers.{Powers};
-ghost use Rattle.rings.specs.Moduli.{is_plain, plain_root};
+ghost use Rattle.rings.specs.Moduli.{is_plain};
 
 pub mod arithmetic;
 
@@ -12,11 +11,8 @@ pub struct Plain {
     reciprocal: u32,
     // the inverse of 128
     inverse: u16,
-    // the powers of the root
-    powers: &'static [u16; 256],
     ghost known: { is_plain modulus ≡ true },
     ghost divides: { reciprocal ≡ (2 ^ 32) / modulus },
     ghost inverts: { (128 * inverse) % modulus ≡ 1 },
     ghost low: { inverse < modulus },
-    ghost tabulated: { Powers (plain_root modulus) modulus powers.now },
 }

@@ -1,7 +1,7 @@
 #![tactic(auto)]
 
 // Written by tools/powers.py.
-// A ring takes its table once, when it is approved, and keeps it.
+// A ring asks for its table at each power, and keeps no reference to it.
 // The five are one form already: a table and what it holds. Their words differ, u16 and u32, so one function for all would need a
 // trait of words with two impls and a type for each root beside the same five tables, and would be no plainer.
 ghost use Rattle.roots.specs.Powers.{Powers};

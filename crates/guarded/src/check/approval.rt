@@ -15,14 +15,12 @@ impl TryFrom<u32> for CheckModulus {
                 most: 167,
                 inverse: 4520,
                 scale: 25370283,
-                powers: roots::joint_7681(),
             }),
             12289 => Ok(CheckModulus {
                 p: Divisor::of(p),
                 most: 103,
                 inverse: 8077,
                 scale: 40590471,
-                powers: roots::joint_12289(),
             }),
             _ => Err(Refusal::Modulus),
         }

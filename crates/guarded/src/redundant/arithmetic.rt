@@ -97,7 +97,7 @@ impl Ring for Redundant {
     }
 
     fn power(&self, e: u8) -> u32 {
-        self.check.powers[e as usize]
+        self.check.powers()[e as usize]
     }
 
     fn inverse(&self) -> u32 {

@@ -1,7 +1,8 @@
 ghost use Rattle.std.specs.Prelude.{◌≡◌, true, [], ◌∷◌, IfOk};
 ghost use Rattle.rings.specs.declared.refusal.Refusal.TheVariants.{Modulus};
 ghost use Rattle.rings.specs.Refusals.{answer, ruling, test as checked};
-ghost use Rattle.rings.specs.Moduli.{is_plain};
+ghost use Rattle.roots.specs.Powers.{Powers};
+ghost use Rattle.rings.specs.Moduli.{is_plain, plain_root};
 ghost use Rattle.rings.specs.PlainRing.{plain_modulus, plain_ring_root, plain_element, plain_meaning};
 ghost use Rattle.std.proofs.Common.{rules};
 
@@ -21,19 +22,16 @@ impl Plain {
                 modulus,
                 reciprocal: 1290167,
                 inverse: 3303,
-                powers: roots::plain_3329(),
             }),
             7681 => Ok(Plain {
                 modulus,
                 reciprocal: 559167,
                 inverse: 7621,
-                powers: roots::plain_7681(),
             }),
             12289 => Ok(Plain {
                 modulus,
                 reciprocal: 349496,
                 inverse: 12193,
-                powers: roots::plain_12289(),
             }),
             _ => Err(Refusal::Modulus),
         }
@@ -44,6 +42,18 @@ impl Plain {
         ensures { result ≡ plain_modulus self.now }
     {
         self.modulus
+    }
+
+    // The powers of the root. Looked up by the modulus and not kept in the ring: a ring that held a reference, and a workspace on it, could
+    // not be lent to a closure, whose proof the borrow checker would not cover.
+    fn powers(&self) -> &'static [u16; 256]
+        ensures { Powers (plain_root self.now.modulus) self.now.modulus result.now }
+    {
+        match self.modulus {
+            3329 => roots::plain_3329(),
+            7681 => roots::plain_7681(),
+            _ => roots::plain_12289(),
+        }
     }
 }
 
@@ -78,7 +88,7 @@ impl Ring for Plain {
     }
 
     fn power(&self, e: u8) -> u16 {
-        self.powers[e as usize]
+        self.powers()[e as usize]
     }
 
     fn inverse(&self) -> u16 {
