@@ -1,4 +1,4 @@
-use crate::bench::{Step, load, play};
+use crate::bench::{Step, in_a_workspace, load, play};
 use guarded::Redundant;
 use histories::Kind;
 use rings::Refusal;
@@ -79,9 +79,6 @@ fn both_kinds(
 
 #[test]
 fn coefficients_are_below_3329_and_bytes_below_t(rt: HostRuntime) -> Result<(), Fail> {
-    let mut space = Workspace::open(Redundant::approve(7681, 3)?);
-    let mut words = [0u32; 2048];
-    let answer = both_kinds(&rt, &mut space, &mut words);
-    space.close(&mut words);
-    answer
+    let ring = Redundant::approve(7681, 3)?;
+    in_a_workspace(ring, 0, |space, words| both_kinds(&rt, space, words))
 }

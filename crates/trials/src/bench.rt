@@ -180,8 +180,19 @@ fn answer_all(
     Ok(())
 }
 
-// Each test opens its workspace, runs and closes it. A helper that takes the rest as a closure was tried: for a ring that holds a `&'static` table,
-// the borrow checker does not cover a closure over its workspace.
+/// Runs a part of a test in a new workspace whose words are all this word, and closes the workspace.
+// Over the redundant ring alone: of an array of any ring's words it is not known that it fits in memory.
+pub(crate) fn in_a_workspace<F>(ring: Redundant, word: u32, run: F) -> Result<(), Fail>
+where
+    F: FnOnce(&mut Workspace<Redundant>, &mut [u32; 2048]) -> Result<(), Fail>,
+    requires { F.IsAlwaysCallable run }
+{
+    let mut space = Workspace::open(ring);
+    let mut words = [word; 2048];
+    let answer = run(&mut space, &mut words);
+    space.close(&mut words);
+    answer
+}
 
 /// Carries out the steps in a new workspace; each has to be refused as said beside it, or accepted.
 pub(crate) fn play(
@@ -190,9 +201,10 @@ pub(crate) fn play(
     t: u8,
     steps: &[(Step, Option<Refusal>)],
 ) -> Result<(), Fail> {
-    let mut space = Workspace::open(Redundant::approve(p, t)?);
-    let mut words = [4294967295u32; 2048];
-    let answer = answer_all(rt, &mut space, &mut words, steps);
-    space.close(&mut words);
-    answer
+    let ring = Redundant::approve(p, t)?;
+    in_a_workspace(
+        ring,
+        4294967295,
+        |space, words| answer_all(rt, space, words, steps),
+    )
 }

@@ -1,4 +1,4 @@
-use crate::bench::{layer, load, released, shift};
+use crate::bench::{in_a_workspace, layer, load, released, shift};
 use algebra::Direction;
 use guarded::Redundant;
 use histories::{Form, Kind};
@@ -90,9 +90,6 @@ fn there_and_back(
 
 #[test]
 fn a_strike_at_any_boundary_of_the_layers_is_found(rt: HostRuntime) -> Result<(), Fail> {
-    let mut space = Workspace::open(Redundant::approve(7681, 3)?);
-    let mut words = [0u32; 2048];
-    let answer = there_and_back(&rt, &mut space, &mut words);
-    space.close(&mut words);
-    answer
+    let ring = Redundant::approve(7681, 3)?;
+    in_a_workspace(ring, 0, |space, words| there_and_back(&rt, space, words))
 }

@@ -1,3 +1,4 @@
+use crate::bench::in_a_workspace;
 use guarded::{Pair, Redundant, Residues};
 use std::process::Abort;
 use std::test::Fail;
@@ -22,11 +23,8 @@ fn refresh_and_clear(
 
 #[test]
 fn refresh_renumbers_the_words_and_clear_leaves_them(rt: HostRuntime) -> Result<(), Fail> {
-    let mut space = Workspace::open(Redundant::approve(7681, 3)?);
-    let mut words = [9u32; 2048];
-    let answer = refresh_and_clear(&rt, &mut space, &mut words);
-    space.close(&mut words);
-    answer
+    let ring = Redundant::approve(7681, 3)?;
+    in_a_workspace(ring, 9, |space, words| refresh_and_clear(&rt, space, words))
 }
 
 #[test]

@@ -1,4 +1,4 @@
-use crate::bench::{Step, answer};
+use crate::bench::{Step, answer, in_a_workspace};
 use guarded::Redundant;
 use rings::Refusal;
 use std::process::Abort;
@@ -86,9 +86,6 @@ fn release_all(
 
 #[test]
 fn a_scratch_of_256_comes_back_zero_and_any_other_as_it_was(rt: HostRuntime) -> Result<(), Fail> {
-    let mut space = Workspace::open(Redundant::approve(7681, 1)?);
-    let mut words = [0u32; 2048];
-    let answer = release_all(&rt, &mut space, &mut words);
-    space.close(&mut words);
-    answer
+    let ring = Redundant::approve(7681, 1)?;
+    in_a_workspace(ring, 0, |space, words| release_all(&rt, space, words))
 }

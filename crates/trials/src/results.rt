@@ -1,4 +1,4 @@
-use crate::bench::{join, load, released, turn};
+use crate::bench::{in_a_workspace, join, load, released, turn};
 use algebra::Direction;
 use guarded::{GuardedRing, Pair, Redundant, Residues};
 use histories::{Kind, Operation};
@@ -126,11 +126,8 @@ fn all<G: GuardedRing>(
 }
 
 fn in_a_redundant_ring(rt: &impl Abort, p: u32, t: u8, mask: u8, byte: u8) -> Result<(), Fail> {
-    let mut space = Workspace::open(Redundant::approve(p, t)?);
-    let mut words = [0u32; 2048];
-    let answer = all(rt, &mut space, &mut words, mask, byte);
-    space.close(&mut words);
-    answer
+    let ring = Redundant::approve(p, t)?;
+    in_a_workspace(ring, 0, |space, words| all(rt, space, words, mask, byte))
 }
 
 #[test]

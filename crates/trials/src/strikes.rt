@@ -1,4 +1,4 @@
-use crate::bench::{Step, play, released};
+use crate::bench::{Step, in_a_workspace, play, released};
 use guarded::Redundant;
 use histories::Form;
 use rings::Refusal;
@@ -31,11 +31,8 @@ fn strike_word_0(
 
 #[test]
 fn a_strike_is_found_unless_it_keeps_the_remainder_by_p(rt: HostRuntime) -> Result<(), Fail> {
-    let mut space = Workspace::open(Redundant::approve(7681, 1)?);
-    let mut words = [0u32; 2048];
-    let answer = strike_word_0(&rt, &mut space, &mut words);
-    space.close(&mut words);
-    answer
+    let ring = Redundant::approve(7681, 1)?;
+    in_a_workspace(ring, 0, |space, words| strike_word_0(&rt, space, words))
 }
 
 #[test]
