@@ -22,20 +22,25 @@ use workspace::Workspace;
 fn bytes(heap: Global, numbers: &[u16]) -> anyhow::Result<Vec<u8>>
     ensures { IfOk result (λ all. vec_len all ≡ length numbers.now) }
 {
-    numbers
-        .iter()
-        .map(|n| u8::try_from(*n).map_err(|_| anyhow!("\"a random byte is above 255\"")))
-        .try_collect(heap)
+    let mut all = Vec::new(heap);
+    // A `for`: `try_collect` extends by one item at a time, and took eight times the instructions.
+    for n in numbers {
+        let Ok(byte) = u8::try_from(*n) else {
+            return Err(anyhow!("\"a random byte is above 255\""));
+        };
+        all.push(byte)?;
+    }
+    Ok(all)
 }
 
 // Prints what came of one ring: the message, and how the release after the strike was answered.
 fn report(rt: &HostRuntime, outcome: Result<Trial, Refusal>) -> anyhow::Result<()> {
     match outcome {
         Ok(trial) => {
-            println!(rt;
-                "message {}",
-                hex::encode(rt.alloc(), message(&trial.numbers))?
-            )?;
+            // into a lent array: a decryption takes memory for its input alone
+            let mut digits = [0u8; 64];
+            hex::encode_to_slice(message(&trial.numbers), &mut digits)?;
+            println!(rt; "message {}", str::from_utf8(&digits)?)?;
             match trial.struck {
                 Ok(_) => println!(rt; "struck word 255: released all the same")?,
                 Err(why) => println!(rt; "struck word 255: release refused, {why}")?,
