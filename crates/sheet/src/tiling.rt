@@ -4,7 +4,7 @@ use crate::fields::Fields;
 use rings::Refusal;
 
 /// How far the fields of a sheet go: how many it has from its start, and the refusal that ends them, if one does.
-#[derive(Clone, Copy)]
+#[derive(Clone, Copy, PartialEq, Eq, Debug)]
 pub struct Extent {
     pub fields: u16,
     pub refusal: Option<Refusal>,
