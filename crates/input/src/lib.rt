@@ -2,6 +2,7 @@
 
 #![tactic(auto)]
 
+mod examples;
 mod reading;
 
 pub use reading::{ReadError, numbers};
