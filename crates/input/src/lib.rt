@@ -2,6 +2,7 @@
 
 #![tactic(auto)]
 
+#[cfg(test)]
 mod examples;
 mod reading;
 
