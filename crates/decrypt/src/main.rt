@@ -28,7 +28,7 @@ fn run(rt: &HostRuntime) -> anyhow::Result<()> {
         return Err(anyhow!("\"a coefficient is above 3328\""));
     };
     println!(rt; "computed v minus the sum of u[i] * s[i], modulo X^256 + 1 and 3329")?;
-    // into a lent array: a decryption takes memory for its input alone
+    // into an array, so that printing takes no memory
     let mut digits = [0u8; 64];
     hex::encode_to_slice(message(&w), &mut digits)?;
     println!(rt; "message {}", str::from_utf8(&digits)?)?;

@@ -37,7 +37,7 @@ fn bytes(heap: Global, numbers: &[u16]) -> anyhow::Result<Vec<u8>>
 fn report(rt: &HostRuntime, outcome: Result<Trial, Refusal>) -> anyhow::Result<()> {
     match outcome {
         Ok(trial) => {
-            // into a lent array: a decryption takes memory for its input alone
+            // into an array, so that printing takes no memory
             let mut digits = [0u8; 64];
             hex::encode_to_slice(message(&trial.numbers), &mut digits)?;
             println!(rt; "message {}", str::from_utf8(&digits)?)?;
